@@ -1,15 +1,15 @@
 -- What an accepted line of each kind holds: the fields that its head is made from, and where they are.
 use Prim.Native.Nat.{ℕ, ◌+◌, ◌-◌, ◌≤◌, ◌<◌, ◌^◌}
 use mathlib.Core.Path.{◌≡◌, refl, sym, ap, subst, ◌∙◌}
-use mathlib.Core.Bool.{Bool, true, false, not, ◌&&◌}
-use mathlib.Core.List.{List, [], ◌∷◌}
+use mathlib.Core.Bool.{Bool, true, false, not}
+use mathlib.Core.List.{List}
 use mathlib.Core.Option.{some}
 use native.Mathlib.Omega.{arith}
 use lib.ListN.{length, take, drop, get_or}
 use Rattle.format.specs.Decimal.{worth, digits}
 use Rattle.format.specs.Lines.{Piece, cut, placed}
-use Rattle.format.specs.Fields.{Field, tagged, last_of}
-use Rattle.format.specs.Records.{Record, header, reference, group, program, comment, Line, refused_line, read, line}
+use Rattle.format.specs.Fields.{Field, last_of}
+use Rattle.format.specs.Records.{Record, Line, refused_line, read, line}
 use Rattle.format.specs.Version.{version}
 use Rattle.format.specs.declared.Version.{Version}
 use Rattle.format.specs.declared.Kind.{Kind}
@@ -20,7 +20,7 @@ use Rattle.accepted.specs.Spelled as sp
 use Rattle.accepted.specs.Spelled.{LengthInRange, Good, Made, Spelled, AcceptedLine, kind₀, kind₁}
 use Rattle.accepted.specs.Read.{is_read}
 use Rattle.lists.proofs.Bools.{never, and_left, and_right}
-use Rattle.accepted.proofs.Fields.{Of, last_of-of}
+use Rattle.accepted.proofs.Fields.{last_of-of}
 use Rattle.lists.proofs.Pairs.{pairs-right}
 use Rattle.accepted.proofs.Sound.{made-kind}
 use Rattle.accepted.proofs.Spelled.{line-accepted}
@@ -36,8 +36,8 @@ use Rattle.accepted_line.specs.Tables.{HasTag}
 use Rattle.accepted_line.proofs.fields.Start.{accepted-start, accepted-fields, accepted-tags}
 use borrow.Author.Tests.{lt-ltb, not-true}
 use Rattle.format.specs.Bytes.{digit, all, none?}
-use Rattle.decimal.specs.Number.{digits_number, number_at_front}
-use Rattle.decimal.specs.declared.Number.TheVariants.{Is}
+use Rattle.std.specs.Prelude.{Ok}
+use Rattle.decimal.specs.Number.{number_of, digits_number, number_at_front}
 use Rattle.decimal.proofs.Whole.{span-all}
 use Rattle.accepted_line.specs.Found.{kind_by, is_comment, uncounted}
 
@@ -202,7 +202,7 @@ module _ (at : ℕ) (s : List ℕ) (a b : ℕ) (p : Piece) (h : Has at s a b p) 
 
 -- ---- what they say
 
-pub front-digits : (limit : ℕ) (ds : List ℕ) → digits ds ≡ true → worth ds < limit → number_at_front limit ds ≡ Is (worth ds) (length ds)
+pub front-digits : (limit : ℕ) (ds : List ℕ) → digits ds ≡ true → worth ds < limit → number_at_front limit ds ≡ Ok (number_of (worth ds) (length ds))
 unfolding number_at_front digits_number digits
 front-digits limit ds h l =
     let n = and_left (not (none? ds)) (all digit ds) h in

@@ -1,5 +1,5 @@
 -- A line that is accepted where repeated tags are forbidden is accepted where they are allowed, as the same record.
-use Prim.Native.Nat.{ℕ, zero, suc, ◌+◌}
+use Prim.Native.Nat.{ℕ, ◌+◌}
 use mathlib.Core.Path.{◌≡◌, refl, sym, ap, ◌∙◌}
 use mathlib.Core.Bool.{Bool, true, false, cond}
 use mathlib.Core.List.{List, [], ◌∷◌}
@@ -7,7 +7,7 @@ use mathlib.Core.Option.{Option, none, some}
 use lib.Dec.{eqb}
 use Rattle.format.specs.Lines.{Piece, cut, placed}
 use Rattle.format.specs.Fields.{Scan, scan, repeats}
-use Rattle.format.specs.Records.{Record, Line, refused_line, read, stopped, judged, fielded, remark, body, kind_of, bodied, kinded, prefixed, breaks, line}
+use Rattle.format.specs.Records.{Line, refused_line, stopped, judged, fielded, body, kind_of, bodied, kinded, prefixed, breaks, line}
 use Rattle.format.specs.declared.Kind.{Kind}
 use Rattle.format.specs.declared.Kind.TheVariants.{Header, ReferenceSequence, ReadGroup, Program, Comment}
 use Rattle.format.specs.Bytes.{any}

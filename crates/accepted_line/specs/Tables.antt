@@ -4,7 +4,7 @@ use Rattle.format.specs.Bytes.{none?}
 use Rattle.format.specs.Fields.{Field, is_tag}
 use Rattle.byte_slices.specs.Stands.{Each}
 use Rattle.accepted_line.specs.Number.{tag_number}
-use Rattle.accepted_line.specs.Run.{fields_of, fields_from, AtField}
+use Rattle.accepted_line.specs.Run.{fields_from, AtField}
 use Rattle.accepted_line.specs.Next.{field_length}
 
 unfoldable pub field_number : Field → ℕ

@@ -56,10 +56,7 @@ pub fn is_once(line: &[u8], at: usize, strict: bool) -> bool
     requires line_bound { at + length line.now ≤ 4294967295 }
     ensures { result ≡ strict || spread (replicate 112 false) (fields_from at line.now 3) }
 {
-    if strict {
-        return true;
-    }
-    is_spread(line, at)
+    strict || is_spread(line, at)
 }
 
 // Notes that a field whose tag has the number `n` is at the offset `place`.
@@ -113,7 +110,7 @@ fn noted_value(line: &[u8], at: usize, a: u8, b: u8, tables: &[u32]) -> Stretch
 fn has_no_repeat(tables: &[u32]) -> bool
     ensures { result ≡ none? tables.now }
 {
-    tables.len() == 0
+    tables.is_empty()
 }
 
 // Whether the field at `i` is the first with its tag. It is if no tag is repeated.

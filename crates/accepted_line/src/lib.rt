@@ -15,8 +15,6 @@ ghost use Rattle.accepted_line.specs.Found.{kind_by, is_comment, uncounted};
 ghost use Rattle.accepted_line.specs.Keys.{no_key_values, with_key, keys_in};
 ghost use Rattle.accepted_line.specs.Form.{LineOf, IsForm, form_of};
 
-use decimal::Number;
-use field::version::ParsedVersion;
 use format::Kind;
 use record::{Head, Stretch};
 
@@ -49,62 +47,34 @@ impl KeyValues {
     pub fn with(self, a: u8, v: Stretch) -> KeyValues
         ensures { result ≡ with_key self a v }
     {
-        let mut key_at = self.key.at;
-        let mut key_len = self.key.len;
-        let mut number_at = self.number.at;
-        let mut number_len = self.number.len;
         if a == b'L' {
-            number_at = v.at;
-            number_len = v.len;
+            KeyValues { number: v, ..self }
         } else {
-            key_at = v.at;
-            key_len = v.len;
-        }
-        KeyValues {
-            key: Stretch {
-                at: key_at,
-                len: key_len,
-            },
-            number: Stretch {
-                at: number_at,
-                len: number_len,
-            },
+            KeyValues { key: v, ..self }
         }
     }
 }
 
 // The kind of an accepted line, from its second byte.
+#[tactic(auto, using(std::proofs::lemmas::Bool::Decides::nat_tests), unfolding(crate::specs::Found::kind_by))]
 pub fn kind_of(src: &[u8]) -> Kind
     requires { 3 ≤ length src.now }
     ensures { result ≡ kind_by (get_or src.now 1 0) }
 {
-    let b = src[1];
-    if b == b'H' {
-        return Kind::Header;
+    match src[1] {
+        b'H' => Kind::Header,
+        b'S' => Kind::ReferenceSequence,
+        b'R' => Kind::ReadGroup,
+        b'P' => Kind::Program,
+        _ => Kind::Comment,
     }
-    if b == b'S' {
-        return Kind::ReferenceSequence;
-    }
-    if b == b'R' {
-        return Kind::ReadGroup;
-    }
-    if b == b'P' {
-        return Kind::Program;
-    }
-    Kind::Comment
 }
 
 // Whether a line of this kind has no fields.
 fn is_comment(kind: Kind) -> bool
     ensures { result ≡ is_comment kind }
 {
-    match kind {
-        Kind::Header => false,
-        Kind::ReferenceSequence => false,
-        Kind::ReadGroup => false,
-        Kind::Program => false,
-        Kind::Comment => true,
-    }
+    matches!(kind, Kind::Comment)
 }
 
 // The form of an accepted line at the offset `at`.
@@ -140,11 +110,7 @@ pub fn find_keys(kind: Kind, src: &[u8], at: usize, tables: &[u32]) -> KeyValues
             key: fields::find_value(src, at, b'S', b'N', tables),
             number: fields::find_value(src, at, b'L', b'N', tables),
         },
-        Kind::ReadGroup => KeyValues {
-            key: fields::find_value(src, at, b'I', b'D', tables),
-            number: nowhere,
-        },
-        Kind::Program => KeyValues {
+        Kind::ReadGroup | Kind::Program => KeyValues {
             key: fields::find_value(src, at, b'I', b'D', tables),
             number: nowhere,
         },
@@ -161,30 +127,24 @@ fn header_of(src: &[u8], at: usize, version: Stretch) -> Head
     let from = version.at - at;
     let len = version.len;
     match field::version::parse_version(&src[from..from + len]) {
-        ParsedVersion::Is(v) => Head::Header(v, 0),
-        ParsedVersion::Invalid => Head::Refused(11),
+        Some(v) => Head::Header(v, 0),
+        None => Head::Refused(11),
     }
 }
 
-// The head of an accepted SQ: where its SN is, and the number in its LN. An accepted line has one; the other arms are there because a `match` needs
+// The head of an accepted SQ: where its SN is, and the number in its LN. An accepted line has one; the other arm is there because a `match` needs
 // an arm for every case.
 fn sequence_of(src: &[u8], at: usize, keys: KeyValues) -> Head
     requires line_of { LineOf ReferenceSequence at src.now }
     requires keys_value { keys ≡ keys_in ReferenceSequence (fields_from at src.now 3) }
     ensures { result ≡ uncounted (head_of (line false (record { at = at; bytes = src.now }))) }
 {
-    let name = keys.key;
     let number = keys.number;
     let from = number.at - at;
     let len = number.len;
-    let place = Stretch {
-        at: name.at,
-        len: name.len,
-    };
     match decimal::read_u64(&src[from..from + len]) {
-        Number::Is(n, _) => Head::ReferenceSequence(place, n, 0),
-        Number::NoDigit => Head::Refused(12),
-        Number::TooLarge => Head::Refused(12),
+        Ok(n) => Head::ReferenceSequence(keys.key, n.value, 0),
+        Err(_) => Head::Refused(12),
     }
 }
 
@@ -194,16 +154,11 @@ pub fn head_of(kind: Kind, src: &[u8], at: usize, keys: KeyValues) -> Head
     requires keys_value { keys ≡ keys_in kind (fields_from at src.now 3) }
     ensures { result ≡ uncounted (head_of (line false (record { at = at; bytes = src.now }))) }
 {
-    let key = keys.key;
-    let place = Stretch {
-        at: key.at,
-        len: key.len,
-    };
     match kind {
-        Kind::Header => header_of(src, at, key),
+        Kind::Header => header_of(src, at, keys.key),
         Kind::ReferenceSequence => sequence_of(src, at, keys),
-        Kind::ReadGroup => Head::ReadGroup(place, 0),
-        Kind::Program => Head::Program(place, 0),
+        Kind::ReadGroup => Head::ReadGroup(keys.key, 0),
+        Kind::Program => Head::Program(keys.key, 0),
         Kind::Comment => Head::Comment(Stretch {
             at: at + 4,
             len: src.len() - 4,

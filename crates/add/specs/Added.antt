@@ -1,7 +1,8 @@
 -- The tidy text with new programs, and the reasons to add nothing once the leaves are known.
-use Rattle.std.specs.Prelude.{ℕ, ◌+◌, Bool, true, false, not, cond, List, ◌++◌, length, ltb}
-use Rattle.std.proofs.Math.Option.{Option, none, some}
-use Rattle.format.specs.Lines.{Piece, lines}
+use Rattle.std.specs.Prelude.{ℕ, ◌+◌, Bool, true, false, not, cond, Option, Some, None, List, ◌++◌, length, ltb, Result, Ok, Err}
+use Rattle.std.proofs.Math.Option as maybe
+use Rattle.std.proofs.Math.Option.{none, some}
+use Rattle.format.specs.Lines.{Piece}
 use Rattle.format.specs.Fields.{Field}
 use Rattle.format.specs.Records.{Record}
 use Rattle.format.specs.Programs.{Program, programs, links, leaves}
@@ -15,12 +16,10 @@ use Rattle.tidy_text.specs.Sizes.{sizes_of}
 use Rattle.add_ids.specs.Taken.{is_among}
 use Rattle.add_lines.specs.Lines.{new_text}
 use Rattle.add_lines.specs.declared.Shape.{Shape}
-use Rattle.add_input.specs.declared.Given.{Given}
-use Rattle.add_input.specs.declared.Given.TheVariants as given
+use Rattle.record.specs.declared.Stretch.{Stretch}
 use Rattle.add.specs.declared.Ways.{Ways}
 use Rattle.add.specs.declared.Plan.{Plan}
-use Rattle.add.specs.declared.Planned.{Planned}
-use Rattle.add.specs.declared.Planned.TheVariants as planned
+use Rattle.format.specs.declared.Refusal.{Refusal}
 
 -- the new programs come after the old ones, and the comments last
 unfoldable pub with_added : List Record → List ℕ → List ℕ
@@ -35,30 +34,30 @@ grown_text t ids shape prefix fields ks = with_added (records_of t) (new_text t 
 abbrev pub writing_grown : List ℕ → List ℕ → Shape → List ℕ → List ℕ → List ℕ → ℕ → Answer (List ℕ)
 writing_grown t ids shape prefix fields ks room = writing room (unwritable 0 (records_of t)) (grown_text t ids shape prefix fields ks)
 
--- a refusal and its line, or what was measured
-unfoldable pub planned_of : Plan → Answer (List ℕ) → Planned
-planned_of p (refused n l) = planned.Refused n (record { 0 = l })
-planned_of p (yes t) = planned.Is p
+-- what was measured, or a refusal and its line
+unfoldable pub planned_of : Plan → Answer (List ℕ) → Result Plan Refusal
+planned_of p (refused n l) = Err (record { number = n; line = record { 0 = l } })
+planned_of p (yes t) = Ok p
 
 -- what is known before a byte of it is written
-abbrev pub planning : List ℕ → List ℕ → Ways → List ℕ → List ℕ → List ℕ → ℕ → Planned
+abbrev pub planning : List ℕ → List ℕ → Ways → List ℕ → List ℕ → List ℕ → ℕ → Result Plan Refusal
 planning t ids ways prefix fields ks room =
     planned_of
     (record { ways = ways; sizes = sizes_of (records_of t); more = length (new_text t ids ways.shape prefix fields ks) })
     (writing_grown t ids ways.shape prefix fields ks room)
 
 -- is no PP given?
-unfoldable pub is_none : Option Piece → Bool
+unfoldable pub is_none : maybe.Option Piece → Bool
 is_none none = true
 is_none (some p) = false
 
 -- the same, from where a given PP is
-unfoldable pub is_nothing : Given → Bool
-is_nothing given.Nothing = true
-is_nothing (given.At at len) = false
+unfoldable pub is_nothing : Option Stretch → Bool
+is_nothing None = true
+is_nothing (Some p) = false
 
 -- a PP is given that equals no ID
-unfoldable pub stray : List (List ℕ) → Option Piece → Bool
+unfoldable pub stray : List (List ℕ) → maybe.Option Piece → Bool
 unfolding is_among
 stray ids none = false
 stray ids (some p) = not (is_among p.bytes ids)

@@ -19,13 +19,11 @@ ghost use Rattle.tidy_text.specs.Sizes.{sizes_of};
 ghost use Rattle.add_lines.specs.Lines.{new_text};
 ghost use Rattle.add.specs.Added.{grown_text, writing_grown, planning, is_none, is_nothing, stray, leaves_of, adding_on};
 
-use add_input::Given;
 use add_lines::Shape;
-use format::LineNo;
-use program_ids::Named;
-use read::{CheckedText, CountAnswer};
+use format::Refusal;
+use read::CountAnswer;
+use record::Stretch;
 use tidy_sizes::PerKind;
-use tidy_text::Measured;
 
 // What the new programs are like, and the rule for repeated tags that the text's lines are read by.
 #[derive(Clone, Copy)]
@@ -47,13 +45,6 @@ struct Plan {
 struct Known {
     linked: bool,
     strict: bool,
-}
-
-// A refusal and its line, or what was measured.
-#[derive(Clone, Copy)]
-enum Planned {
-    Refused(u8, LineNo),
-    Is(Plan),
 }
 
 // Writes the tidy text with the new programs after the old ones, and answers its length. The new programs go into a gap that is left before the
@@ -111,7 +102,7 @@ fn measure_all(
     leaves: &[u32],
     ways: Ways,
     room: usize,
-) -> Planned
+) -> Result<Plan, Refusal>
     requires text_value { is_accepted (read_text text.now) ≡ true }
     requires reads_by { ReadsBy ways.strict text.now }
     requires ids_in_text { IdsInText text.now ids.now }
@@ -120,18 +111,18 @@ fn measure_all(
         prefix.now fields.now leaves.now room }
 {
     match tidy_text::measure(text, ways.strict) {
-        Measured::Unwritable(line) => Planned::Refused(24, line),
-        Measured::Is(sizes) => {
+        Err(line) => Err(Refusal { number: 24, line }),
+        Ok(sizes) => {
             let n = sizes.total();
             if is_too_long(prefix, fields) {
-                return Planned::Refused(1, LineNo(0));
+                return Err(Refusal::of_text(1));
             }
             let more = add_lines::added_len(text, ids, prefix, fields, leaves, ways.shape);
             let unfit = tidy_sizes::fit(n, more, 0, room);
             if unfit != 0 {
-                return Planned::Refused(unfit, LineNo(0));
+                return Err(Refusal::of_text(unfit));
             }
-            Planned::Is(Plan { ways, sizes, more })
+            Ok(Plan { ways, sizes, more })
         }
     }
 }
@@ -158,13 +149,9 @@ fn write_added(
         prefix.now fields.now leaves.now (length out.old))
         out.old }
 {
-    match measure_all(text, ids, prefix, fields, leaves, ways, out.len()) {
-        Planned::Refused(n, line) => CountAnswer::Refused(n, line),
-        Planned::Is(plan) => {
-            let n = put_grown_text(text, ids, prefix, fields, leaves, plan, out);
-            CountAnswer::Count(n)
-        }
-    }
+    let plan = measure_all(text, ids, prefix, fields, leaves, ways, out.len())?;
+    let n = put_grown_text(text, ids, prefix, fields, leaves, plan, out);
+    Ok(n)
 }
 
 // Whether no program has this ID yet.
@@ -172,31 +159,25 @@ fn is_free(text: &[u8], ids: &[u32], id: &[u8]) -> bool
     requires { IdsInText text.now ids.now }
     ensures { result ≡ not (is_among id.now (ids_at text.now ids.now)) }
 {
-    match program_ids::find_program(text, ids, id) {
-        Named::Nobody => true,
-        Named::Is(_) => false,
-    }
+    program_ids::find_program(text, ids, id).is_none()
 }
 
 // Whether no PP is given, so that the PP of a new program is the ID of its leaf.
-fn is_linked(previous: Given) -> bool
+fn is_linked(previous: Option<Stretch>) -> bool
     ensures { result ≡ is_nothing previous }
 {
-    match previous {
-        Given::Nothing => true,
-        Given::At(_, _) => false,
-    }
+    previous.is_none()
 }
 
 // Whether a PP is given and it equals no ID.
-fn is_stray(text: &[u8], ids: &[u32], fields: &[u8], previous: Given) -> bool
+fn is_stray(text: &[u8], ids: &[u32], fields: &[u8], previous: Option<Stretch>) -> bool
     requires ids_in_text { IdsInText text.now ids.now }
     requires previous_value { previous ≡ given_of (last_of 80 80 (given fields.now).fields) }
     ensures { result ≡ stray (ids_at text.now ids.now) (last_of 80 80 (given fields.now).fields) }
 {
     match previous {
-        Given::Nothing => false,
-        Given::At(at, len) => is_free(text, ids, &fields[at..at + len]),
+        None => false,
+        Some(p) => is_free(text, ids, &fields[p.at..p.at + p.len]),
     }
 }
 
@@ -246,12 +227,12 @@ fn add_after(
     let alone = is_free(text, ids, prefix);
     let first = first_joined(leaves.len(), alone);
     if add_ids::is_taken(text, ids, prefix, &leaves[first..]) {
-        return CountAnswer::Refused(18, LineNo(0));
+        return Err(Refusal::of_text(18));
     }
     let count = ids.len() / program_ids::ROW;
     let empty = count == 0;
     if 1024 < count + new_count(leaves.len(), empty) {
-        return CountAnswer::Refused(19, LineNo(0));
+        return Err(Refusal::of_text(19));
     }
     let shape = Shape {
         empty,
@@ -280,7 +261,7 @@ fn add_fresh(
         out.old }
 {
     if !add_input::is_in_form(prefix, fields) {
-        return CountAnswer::Refused(26, LineNo(0));
+        return Err(Refusal::of_text(26));
     }
     let previous = add_input::find_previous(fields);
     let mut list: [u32; 3072] = [0; 3072];
@@ -288,18 +269,18 @@ fn add_fresh(
     let end = count * program_ids::ROW;
     let ids = &list[..end];
     if is_stray(text, ids, fields, previous) {
-        return CountAnswer::Refused(22, LineNo(0)); // the given PP
+        return Err(Refusal::of_text(22)); // the given PP
     }
-    let graph = program_parents::find_leaves(program_parents::parents_of(text, catalogue));
-    if graph.refusal != 0 {
-        return CountAnswer::Refused(graph.refusal, LineNo(0));
-    }
-    let found = graph.leaves;
-    let ordinals = found.list;
-    let leaves = &ordinals[..found.count];
     let linked = is_linked(previous);
     let known = Known { linked, strict };
-    add_after(text, ids, prefix, fields, leaves, known, out)
+    let parents = program_parents::parents_of(text, catalogue);
+    match program_parents::find_leaves(&parents) {
+        Err(refusal) => Err(Refusal::of_text(refusal)),
+        Ok(found) => {
+            let leaves = &found.list[..found.count];
+            add_after(text, ids, prefix, fields, leaves, known, out)
+        }
+    }
 }
 
 // Adds a program after each leaf, and writes the tidy text to the front of `out`. The refusals, in this order: those of reading, 21, 26, 22, 23, 18,
@@ -316,8 +297,6 @@ pub fn add(
         (adding text.now catalogue.now prefix.now fields.now (length out.old))
         out.old }
 {
-    match read::check_text(text, catalogue) {
-        CheckedText::Refused(n, line) => CountAnswer::Refused(n, line),
-        CheckedText::Fresh(once) => add_fresh(text, catalogue, prefix, fields, once, out),
-    }
+    let once = read::check_text(text, catalogue)?;
+    add_fresh(text, catalogue, prefix, fields, once, out)
 }

@@ -9,7 +9,7 @@ use lib.Dec.{eqb, ltb}
 use borrow.Author.Tests.{ltb-true, eqb-false, eq-eqb, not-true}
 use Rattle.format.specs.Bytes.{same, any, none?, distinct}
 use Rattle.format.specs.Fields.{Field}
-use Rattle.format.specs.Records.{Record, program, code, key, others}
+use Rattle.format.specs.Records.{Record, program, code, key}
 use Rattle.format.specs.Reading.{read_text, accept, of_kind}
 use Rattle.format.specs.Programs.{Program, bytes_of, program_of, programs, ordinal_from, link, links, leaves, leaves_from, numbers_from}
 use Rattle.format.specs.Adding.{no_program, unplaced, chained, is_known, after_leaves, added, used}

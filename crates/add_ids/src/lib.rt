@@ -40,10 +40,7 @@ pub fn find_id<'a>(text: &'a [u8], ids: &[u32], program: ProgramNo) -> &'a [u8]
     if ids.len() / program_ids::ROW <= k {
         return &text[..0];
     }
-    let row = k * program_ids::ROW;
-    let start = ids[row] as usize;
-    let end = start + ids[row + 1] as usize;
-    &text[start..end]
+    program_ids::id_at(text, ids, k)
 }
 
 // Whether the ID of some program is the prefix, `-` and another ID. The search stops at the first.
@@ -51,13 +48,11 @@ fn is_known(text: &[u8], ids: &[u32], prefix: &[u8], other: &[u8]) -> bool
     requires { IdsInText text.now ids.now }
     ensures { result ≡ is_among (joined prefix.now other.now) (ids_at text.now ids.now) }
 {
-    let mut k: usize = 0;
-    while k < ids.len() / program_ids::ROW {
-        let id = find_id(text, ids, ProgramNo(k as u32));
+    for k in 0..ids.len() / program_ids::ROW {
+        let id = program_ids::id_at(text, ids, k);
         if is_joined(id, prefix, other) {
             return true;
         }
-        k += 1;
     }
     false
 }
@@ -67,13 +62,11 @@ pub fn is_taken(text: &[u8], ids: &[u32], prefix: &[u8], leaves: &[u32]) -> bool
     requires { IdsInText text.now ids.now }
     ensures { result ≡ taken (ids_at text.now ids.now) prefix.now leaves.now }
 {
-    let mut i: usize = 0;
-    while i < leaves.len() {
-        let id = find_id(text, ids, ProgramNo(leaves[i]));
+    for &leaf in leaves {
+        let id = find_id(text, ids, ProgramNo(leaf));
         if is_known(text, ids, prefix, id) {
             return true;
         }
-        i += 1;
     }
     false
 }

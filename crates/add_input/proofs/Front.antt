@@ -1,13 +1,13 @@
 -- What is at the front of given fields: nothing, a field, or a refusal.
 use Prim.Native.Nat.{ℕ, suc, ◌+◌, ◌-◌, ◌<◌}
 use mathlib.Core.Path.{◌≡◌, refl, sym, ap, subst, ◌∙◌}
-use mathlib.Core.Bool.{Bool, true, false}
+use mathlib.Core.Bool.{true}
 use mathlib.Core.List.{List, [], ◌∷◌, ◌++◌, append-nil}
 use native.Mathlib.Omega.{arith}
 use lib.ListN.{length, take, drop, take-append-drop}
 use lib.Seq.{drop-cons}
 use lib.Dec.{eqb, ltb}
-use borrow.Author.Tests.{eqb-true, eqb-false, ne_eqb, ltb-true, ltb-false}
+use borrow.Author.Tests.{eqb-true, ne_eqb, ltb-true, ltb-false}
 use Rattle.format.specs.Fields.{Field, field}
 use Rattle.format.specs.Adding.{given}
 use Rattle.format.specs.Tidy.{field_text}
@@ -15,11 +15,12 @@ use Rattle.format.specs.declared.Kind.TheVariants.{Program}
 use Rattle.byte_slices.specs.Upto.{upto, before}
 use Rattle.byte_slices.specs.Stands.{Stands}
 use Rattle.byte_slices.proofs.Lines.{upto_le}
-use Rattle.field.specs.declared.ParsedField as code
+use Rattle.std.specs.Prelude.{Result, Ok, Err}
+use Rattle.field.specs.declared.ParsedField.{ParsedField}
 use Rattle.field.specs.Parsed.{parsed_of}
 use Rattle.lists.proofs.Bools.{split}
 use Rattle.record_parser.proofs.FieldByField.{tail_scan, prepend, upto-not}
-use Rattle.record_parser.proofs.Walked.{Turned, turned, refused-here}
+use Rattle.record_parser.proofs.Walked.{Turned, turned, refused-here, numbered-here}
 use Rattle.record_parser.proofs.Step.{clean-field, spelled-text}
 use Rattle.accepted_line.specs.Run.{Runs}
 use Rattle.accepted_line.specs.Next.{field_length}
@@ -35,23 +36,23 @@ given-tail (b ∷ s) = refl
 pub data Front (at : ℕ) : List ℕ → Type 0 where
   ends : Front at []
   stops : {s : List ℕ} (n : ℕ) → (n ≡ 0 → ⊥) → tail_scan Program at s ≡ record { fields = []; stop = n } → Front at s
-  starts : (s : List ℕ) (g : code.ParsedField) → Turned Program at s g → Front at (9 ∷ s)
+  starts : (s : List ℕ) (g : ParsedField) → Turned Program at s g → Front at (9 ∷ s)
 
 pub front : (at : ℕ) (s : List ℕ) → Front at s
 unfolding tail_scan
 front at [] = ends
 front at (b ∷ s) = split (eqb b 9) tab (λ n. stops 6 (λ e. omega arith) (rw n refl))
   where
-    at-tab : (g : code.ParsedField) → g ≡ parsed_of Program (field Program 0 (before 9 s)) → (t : Bool) → eqb g.stop 0 ≡ t → Front at (9 ∷ s)
-    at-tab g q true e = starts s g (turned Program at s g q (eqb-true _ _ e))
-    at-tab g q false e = stops g.stop (eqb-false _ _ e) (refused-here Program at s g q (eqb-false _ _ e))
+    at-tab : (r : Result ParsedField ℕ) → r ≡ parsed_of Program (field Program 0 (before 9 s)) → Front at (9 ∷ s)
+    at-tab (Ok g) q = starts s g (turned Program at s (Ok g) q g refl)
+    at-tab (Err n) q = stops n (numbered-here Program at s (Err n) q n refl) (refused-here Program at s (Err n) q n refl)
 
     tab : eqb b 9 ≡ true → Front at (b ∷ s)
-    tab e = rw (eqb-true b 9 e) (at-tab (parsed_of Program (field Program 0 (before 9 s))) refl _ refl)
+    tab e = rw (eqb-true b 9 e) (at-tab (parsed_of Program (field Program 0 (before 9 s))) refl)
 
 -- ---- a field
 
-module _ (at : ℕ) (s : List ℕ) (g : code.ParsedField) (t : Turned Program at s g) where
+module _ (at : ℕ) (s : List ℕ) (g : ParsedField) (t : Turned Program at s g) where
   -- how many bytes it has after its tab
   abbrev pub size : ℕ
   size = 3 + length t.field.value.bytes

@@ -14,7 +14,7 @@ use Rattle.format.specs.Fields.{Field, tagged, Scan, repeats}
 use Rattle.format.specs.Adding.{given}
 use Rattle.format.specs.declared.Kind.TheVariants.{Program}
 use Rattle.byte_slices.proofs.Lines.{upto_le}
-use Rattle.field.specs.declared.ParsedField as code
+use Rattle.field.specs.declared.ParsedField.{ParsedField}
 use Rattle.format.specs.Keys.{is_key}
 use Rattle.lists.proofs.Bools.{any_append, any_snoc, or-true, or_left, or_right, or_split}
 use Rattle.accepted.proofs.Tags.{repeats-snoc, repeats-more}
@@ -89,7 +89,7 @@ module _ (src : List ℕ) (pos : ℕ) (w : Going src pos) where
     pub turn-refused : (n : ℕ) → tail_scan Program pos (9 ∷ drop (pos + 1) src) ≡ record { fields = []; stop = n } → (n ≡ 0 → ⊥) → marred (given src) ≡ true
     turn-refused n e m = ap marred (opened ∙ ap (prepend w.fields) e) ∙ marred-stop w.fields n m
 
-    module _ (g : code.ParsedField) (t : Turned Program pos (drop (pos + 1) src) g) where
+    module _ (g : ParsedField) (t : Turned Program pos (drop (pos + 1) src) g) where
       len : g.len ≡ length t.field.value.bytes
       len = (turn-shown Program pos (drop (pos + 1) src) g t).len
 

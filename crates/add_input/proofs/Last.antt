@@ -3,7 +3,10 @@ use Prim.Native.Nat.{ℕ, suc, ◌+◌, ◌-◌, ◌≤◌, ◌<◌}
 use mathlib.Core.Path.{◌≡◌, refl, sym, ap, subst, ◌∙◌}
 use mathlib.Core.Bool.{true, false, ◌&&◌}
 use mathlib.Core.List.{List, [], ◌∷◌}
-use mathlib.Core.Option.{Option, none, some}
+use mathlib.Core.Option as maybe
+use mathlib.Core.Option.{none, some}
+use Rattle.std.specs.Prelude.{Option, Some, None}
+use Rattle.record.specs.declared.Stretch.{Stretch}
 use native.Mathlib.Omega.{arith}
 use lib.ListN.{length, drop, get_or, length-drop, drop_of_length-le}
 use lib.Seq.{drop-drop, get_or-drop}
@@ -14,35 +17,33 @@ use Rattle.format.specs.Adding.{given}
 use Rattle.format.specs.declared.Kind.TheVariants.{Program}
 use Rattle.byte_slices.specs.Upto.{upto}
 use Rattle.byte_slices.proofs.Lines.{upto_le}
-use Rattle.field.specs.declared.ParsedField as code
+use Rattle.field.specs.declared.ParsedField.{ParsedField}
 use Rattle.record_parser.proofs.FieldByField.{tail_scan, prepend}
 use Rattle.record_parser.proofs.Walked.{Turned}
-use Rattle.add_input.specs.declared.Given.{Given}
-use Rattle.add_input.specs.declared.Given.TheVariants.{Nothing, At}
 use Rattle.add_input.specs.Given.{given_of}
 use Rattle.add_input.proofs.Front as fr
 use Rattle.add_input.proofs.Front.{Front, front, given-tail, size, place, onward, whole}
 
 -- a later value, or else `v`
-unfoldable pub or_given : Given → Option Piece → Given
+unfoldable pub or_given : Option Stretch → maybe.Option Piece → Option Stretch
 unfolding given_of
 or_given v none = v
 or_given v (some p) = given_of (some p)
 
 -- what is left from the place `pos` on is in form, and its last PP, or else `last`, is that of all fields
-pub record Seeking (src : List ℕ) (last : Given) (pos : ℕ) : Type 0 where
+pub record Seeking (src : List ℕ) (last : Option Stretch) (pos : ℕ) : Type 0 where
   pub within : pos ≤ length src
   pub formed : (tail_scan Program pos (drop pos src)).stop ≡ 0
   pub left : given_of (last_of 80 80 (given src).fields) ≡ or_given last (last_of 80 80 (tail_scan Program pos (drop pos src)).fields)
 
-pub seeking-start : (src : List ℕ) → (given src).stop ≡ 0 → Seeking src Nothing 0
+pub seeking-start : (src : List ℕ) → (given src).stop ≡ 0 → Seeking src None 0
 seeking-start src h = record {
   within = omega arith;
   formed = sym (ap (λ s. s.stop) (given-tail src)) ∙ h;
   left = ap (λ s. given_of (last_of 80 80 s.fields)) (given-tail src) ∙ nothing (last_of 80 80 (tail_scan Program 0 src).fields);
 }
   where
-    nothing : (o : Option Piece) → given_of o ≡ or_given Nothing o
+    nothing : (o : maybe.Option Piece) → given_of o ≡ or_given None o
     nothing none = unfold given_of or_given in refl
     nothing (some p) = unfold or_given in refl
 
@@ -51,10 +52,10 @@ seeking-start src h = record {
 -- it starts with the tab there
 record Field-at (src : List ℕ) (pos : ℕ) : Type 0 where
   tail : drop pos src ≡ 9 ∷ drop (pos + 1) src
-  read : code.ParsedField
+  read : ParsedField
   turned : Turned Program pos (drop (pos + 1) src) read
 
-module _ (src : List ℕ) (last : Given) (pos : ℕ) (w : Seeking src last pos) where
+module _ (src : List ℕ) (last : Option Stretch) (pos : ℕ) (w : Seeking src last pos) where
   -- all is read
   pub seeking-end : length src ≤ pos → last ≡ given_of (last_of 80 80 (given src).fields)
   unfolding tail_scan last_of or_given
@@ -108,7 +109,7 @@ module _ (src : List ℕ) (last : Given) (pos : ℕ) (w : Seeking src last pos) 
           let d : pos + 1 + n ≡ end = omega (arith, ends) in
           opened ∙ rw (drop-drop n (pos + 1) src, e, d) refl
 
-      next : (v : Given) → or_given last (last_of 80 80 (f ∷ others.fields)) ≡ or_given v (last_of 80 80 others.fields) → Seeking src v end
+      next : (v : Option Stretch) → or_given last (last_of 80 80 (f ∷ others.fields)) ≡ or_given v (last_of 80 80 others.fields) → Seeking src v end
       unfolding prepend
       next v e = record {
         within = bounds.1;
@@ -117,14 +118,14 @@ module _ (src : List ℕ) (last : Given) (pos : ℕ) (w : Seeking src last pos) 
       }
 
       -- it is a PP: the last so far
-      pub seeking-same : eqb (get_or src (pos + 1) 0) 80 && eqb (get_or src (pos + 2) 0) 80 ≡ true → Seeking src (At (pos + 4) (end - (pos + 4))) end
+      pub seeking-same : eqb (get_or src (pos + 1) 0) 80 && eqb (get_or src (pos + 2) 0) 80 ≡ true → Seeking src (Some (record { at = pos + 4; len = end - (pos + 4) })) end
       unfolding last_of
       seeking-same h =
           let l : end - (pos + 4) ≡ length f.value.bytes = omega (arith, ends) in
-          next (At (pos + 4) (end - (pos + 4)))
+          next (Some (record { at = pos + 4; len = end - (pos + 4) }))
           (rw (sym tag ∙ h, l, ← place pos (drop (pos + 1) src) here.read here.turned) (go (last_of 80 80 others.fields)))
         where
-          go : (o : Option Piece) → or_given last (later (some f.value) o) ≡ or_given (At f.value.at (length f.value.bytes)) o
+          go : (o : maybe.Option Piece) → or_given last (later (some f.value) o) ≡ or_given (Some (record { at = f.value.at; len = length f.value.bytes })) o
           go none = unfold later or_given given_of in refl
           go (some p) = unfold later or_given in refl
 
@@ -133,6 +134,6 @@ module _ (src : List ℕ) (last : Given) (pos : ℕ) (w : Seeking src last pos) 
       unfolding last_of
       seeking-other h = next last (rw (sym tag ∙ h) (go (last_of 80 80 others.fields)))
         where
-          go : (o : Option Piece) → or_given last (later none o) ≡ or_given last o
+          go : (o : maybe.Option Piece) → or_given last (later none o) ≡ or_given last o
           go none = unfold later in refl
           go (some p) = unfold later in refl

@@ -10,13 +10,7 @@ ghost use Rattle.format.specs.Keys.{is_key};
 ghost use Rattle.add_input.specs.Given.{marred, given_of};
 
 use format::Kind;
-
-// Where the value of the given PP is in the given fields: its offset and its length.
-#[derive(Clone, Copy)]
-pub enum Given {
-    Nothing,
-    At(usize, usize),
-}
+use record::Stretch;
 
 // Whether all of `src` is one value. A tab ends a value.
 fn is_value(src: &[u8]) -> bool
@@ -48,10 +42,9 @@ fn is_marred(fields: &[u8]) -> bool
         if fields[pos] != b'\t' {
             return true;
         }
-        let f = field::parse_field(Kind::Program, &fields[pos + 1..]);
-        if f.stop != 0 {
+        let Ok(f) = field::parse_field(Kind::Program, &fields[pos + 1..]) else {
             return true;
-        }
+        };
         if is_barred(&fields[..pos], f.tag_0, f.tag_1) {
             return true;
         }
@@ -67,17 +60,18 @@ pub fn is_in_form(prefix: &[u8], fields: &[u8]) -> bool
     is_value(prefix) && !is_marred(fields)
 }
 
-// Where the value of the given PP is.
-pub fn find_previous(fields: &[u8]) -> Given
+// Where the value of the given PP is in the given fields, if one is given.
+pub fn find_previous(fields: &[u8]) -> Option<Stretch>
     requires { (given fields.now).stop ≡ 0 }
     ensures { result ≡ given_of (last_of 80 80 (given fields.now).fields) }
 {
-    let mut last = Given::Nothing;
+    let mut last = None;
     let mut pos: usize = 0;
     while pos < fields.len() {
         let end = pos + 1 + byte_slices::upto(&fields[pos + 1..], b'\t');
         if field_tag::is_same_tag(fields[pos + 1], fields[pos + 2], b'P', b'P') {
-            last = Given::At(pos + 4, end - (pos + 4));
+            let at = pos + 4;
+            last = Some(Stretch { at, len: end - at });
         }
         pos = end;
     }

@@ -142,14 +142,12 @@ pub fn added_len(
     if shape.empty {
         return line_len(prefix, fields, &text[..0], true, false);
     }
-    let mut n: usize = 0;
+    let mut n = 0usize;
     let mut first = shape.alone;
-    let mut i: usize = 0;
-    while i < leaves.len() {
-        let id = add_ids::find_id(text, ids, ProgramNo(leaves[i]));
+    for &leaf in leaves {
+        let id = add_ids::find_id(text, ids, ProgramNo(leaf));
         n += line_len(prefix, fields, id, first, shape.linked);
         first = false;
-        i += 1;
     }
     n
 }
@@ -182,16 +180,14 @@ pub fn put_added(
     }
     let mut n = o;
     let mut first = shape.alone;
-    let mut i: usize = 0;
-    while i < leaves.len() {
-        let id = add_ids::find_id(text, ids, ProgramNo(leaves[i]));
+    for &leaf in leaves {
+        let id = add_ids::find_id(text, ids, ProgramNo(leaf));
         let look = Look {
             alone: first,
             linked: shape.linked,
         };
         n = put_program_line(out, n, prefix, fields, id, look);
         first = false;
-        i += 1;
     }
     n
 }

@@ -6,6 +6,7 @@ use mathlib.Core.Logic.{◌⊎◌, inl, inr, ⊎_elim}
 use mathlib.Core.List.{List, ◌∷◌}
 use mathlib.Core.Option.{Option, none, some}
 use native.Mathlib.Omega.{arith}
+use Rattle.std.specs.Prelude.{Some}
 use lib.ListN.{length, take, drop, get_or, length-drop}
 use lib.Seq.{length-take-le, get_or-take, get_or-drop}
 use lib.Dec.{eqb, leb}
@@ -21,9 +22,10 @@ use Rattle.binary_parts.proofs.Taken.{number_short, number-at, sized-short, size
 use Rattle.binary_parts.proofs.Closed.{closed-last, closed-name, open-name}
 use Rattle.binary_parts.proofs.Listed.{list-end}
 use Rattle.binary_parts.proofs.Both.{started, other-start, start-long}
-use Rattle.binary_len.specs.declared.BinaryLen.{BinaryLen}
-use Rattle.binary_len.specs.declared.BinaryLen.TheVariants.{Whole, More, Refused}
-use Rattle.binary_len.specs.BinaryLen.{part, onward, number_at, reference_at, references_at, start, binary_len}
+use Rattle.binary_len.specs.BinaryLen.{BinaryLen}
+use Rattle.binary_len.specs.declared.Len.TheVariants.{Whole, More}
+use Rattle.std.specs.Prelude.{Ok, Err}
+use Rattle.binary_len.specs.BinaryLen.{part, onward, number_at, reference_at, references_at, binary_len}
 use Rattle.binary_len.specs.Laws.{some?, is_binary}
 use Rattle.binary_len.proofs.PartByPart.{part-there, part_cut, length_cut, name-none, name-cut, name-open, name-closed, start-cut, start-other, text-length-cut, text-cut, count_cut, list_at}
 use Rattle.binary_len.proofs.Grown.{Says, says-reference}
@@ -50,9 +52,9 @@ rest none = none
 rest (some p) = some p.1
 
 unfoldable behind : List ℕ → BinaryLen → Option (List ℕ)
-behind s (Whole n) = some (drop n s)
-behind s (More n) = none
-behind s (Refused n) = none
+behind s (Ok (Whole n)) = some (drop n s)
+behind s (Ok (More n)) = none
+behind s (Err n) = none
 
 -- ---- the last byte of a run
 
@@ -72,7 +74,7 @@ module _ (s : List ℕ) (at n : ℕ) (h : at + n ≤ length s) where
 
 module _ (s : List ℕ) (at : ℕ) (h : at ≤ length s) where
   number : NumberAt
-  number = record { ok = true; value = number_at s at; next = at + 4 }
+  number = record { value = number_at s at; next = at + 4 }
 
   -- the length is cut
   reference-cut : length s < at + 4 → rest (take_reference (drop at s)) ≡ behind s (reference_at s at)
@@ -80,7 +82,7 @@ module _ (s : List ℕ) (at : ℕ) (h : at ≤ length s) where
   reference-cut k = rw (number_short s at (omega arith), length_cut s at (number_at s at) refl k) refl
 
   module _ (k : at + 4 ≤ length s) where
-    taken : take_number (drop at s) ≡ number_taken s number
+    taken : take_number (drop at s) ≡ number_taken s (Some number)
     unfolding number_taken number number_at
     taken = number-at s at (omega arith)
 
@@ -88,7 +90,7 @@ module _ (s : List ℕ) (at : ℕ) (h : at ≤ length s) where
     reference-short : length s < at + 4 + number_at s at → rest (take_reference (drop at s)) ≡ behind s (reference_at s at)
     unfolding rest behind take_reference and_then number
     reference-short l =
-        rw (sized-short s at number taken refl (omega arith), name-cut s at (number_at s at) refl k (λ z. omega arith) l) refl
+        rw (sized-short s at number taken (omega arith), name-cut s at (number_at s at) refl k (λ z. omega arith) l) refl
 
     module _ (l : at + 4 + number_at s at ≤ length s) where
       run : List ℕ
@@ -96,7 +98,7 @@ module _ (s : List ℕ) (at : ℕ) (h : at ≤ length s) where
 
       sized : take_sized (drop at s) ≡ some (take (number_at s at) (drop (at + 4) s), drop (at + 4 + number_at s at) s)
       unfolding number
-      sized = sized-at s at number taken refl (omega arith)
+      sized = sized-at s at number taken (omega arith)
 
       reference-none : number_at s at ≡ 0 → rest (take_reference (drop at s)) ≡ behind s (reference_at s at)
       unfolding rest behind take_reference and_then last_or
@@ -153,9 +155,9 @@ whole_on n (some s) = is_whole (take_list n s)
 
 -- are the bytes a header of all their length?
 unfoldable pub ends : List ℕ → BinaryLen → Bool
-ends s (Whole n) = eqb n (length s)
-ends s (More n) = false
-ends s (Refused n) = false
+ends s (Ok (Whole n)) = eqb n (length s)
+ends s (Ok (More n)) = false
+ends s (Err n) = false
 
 list-rest : (n : ℕ) (s : List ℕ) → is_whole (take_list (suc n) s) ≡ whole_on n (rest (take_reference s))
 unfolding whole_on rest take_list is_whole and_then
@@ -179,9 +181,9 @@ list-apart s (suc n) at h =
   where
     go : (a : BinaryLen) → Says s a → ((at : ℕ) → at ≤ length s → is_whole (take_list n (drop at s)) ≡ ends s (references_at s at n))
         → whole_on n (behind s a) ≡ ends s (onward a (λ next. references_at s next n))
-    go (Whole m) k ih = ih m k
-    go (More m) k ih = refl
-    go (Refused m) k ih = refl
+    go (Ok (Whole m)) k ih = ih m k
+    go (Ok (More m)) k ih = refl
+    go (Err m) k ih = refl
 
 -- ---- the whole
 
@@ -216,20 +218,20 @@ module _ (s : List ℕ) where
 
     module _ (h : 8 ≤ length s) where
       first : NumberAt
-      first = record { ok = true; value = number_at s 4; next = 8 }
+      first = record { value = number_at s 4; next = 8 }
 
-      first_taken : take_number (drop 4 s) ≡ number_taken s first
+      first_taken : take_number (drop 4 s) ≡ number_taken s (Some first)
       unfolding number_taken first number_at
       first_taken = number-at s 4 (omega arith)
 
       apart-text : length s < 8 + number_at s 4 → is_binary s ≡ ends s (binary_len s)
       unfolding some? ends take_both and_then first
-      apart-text k = begun ∙ rw (sized-short s 4 first first_taken refl (omega arith), text-cut s e h (number_at s 4) refl k) refl
+      apart-text k = begun ∙ rw (sized-short s 4 first first_taken (omega arith), text-cut s e h (number_at s 4) refl k) refl
 
       module _ (k : 8 + number_at s 4 ≤ length s) where
         text : take_sized (drop 4 s) ≡ some (take (number_at s 4) (drop 8 s), drop (8 + number_at s 4) s)
         unfolding first
-        text = sized-at s 4 first first_taken refl (omega arith)
+        text = sized-at s 4 first first_taken (omega arith)
 
         apart-count : length s < 8 + number_at s 4 + 4 → is_binary s ≡ ends s (binary_len s)
         unfolding some? ends take_both and_then

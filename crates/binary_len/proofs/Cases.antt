@@ -6,8 +6,9 @@ use lib.ListN.{take}
 use Rattle.format.specs.Catalogue.{little}
 use Rattle.format.specs.Binary.{magic, binary}
 use Rattle.format.proofs.Ascii.{ascii}
-use Rattle.binary_len.specs.declared.BinaryLen.{BinaryLen}
-use Rattle.binary_len.specs.declared.BinaryLen.TheVariants.{Whole, More, Refused}
+use Rattle.binary_len.specs.BinaryLen.{BinaryLen}
+use Rattle.binary_len.specs.declared.Len.TheVariants.{Whole, More}
+use Rattle.std.specs.Prelude.{Ok, Err}
 use Rattle.binary_len.specs.BinaryLen.{binary_len}
 
 -- a header of 17 bytes with no reference, and one of 35 with one
@@ -29,26 +30,26 @@ announced n name = magic ++ little 4 0 ++ little 4 1 ++ little 4 n ++ name ++ li
 unfoldable pub corners : List (List ℕ × BinaryLen)
 unfolding ascii magic little bare one announced
 corners =
-    (bare, Whole 17) ∷
-    (bare ++ (0 ∷ []), Whole 17) ∷
-    (take 16 bare, More 17) ∷
-    (one, Whole 35) ∷
-    (one ++ bare, Whole 35) ∷
-    (take 34 one, More 35) ∷
-    (take 30 one, More 31) ∷
-    (take 28 one, More 29) ∷
-    (take 24 one, More 25) ∷
-    (take 20 one, More 21) ∷
-    (announced 2 (97 ∷ 0 ∷ []), Whole 22) ∷
-    (announced 0 [], Refused 28) ∷
-    (announced 2 (0 ∷ 97 ∷ []), Refused 28) ∷
-    (announced 1 (0 ∷ []), Whole 21) ∷
-    (announced 4294967295 (97 ∷ 0 ∷ []), More 4294967311) ∷
-    (magic ++ little 4 4294967295, More 4294967303) ∷
-    (magic ++ little 4 0 ++ little 4 4294967295, More 16) ∷
-    (ascii "BAM\t", Refused 28) ∷
-    (ascii "X", Refused 28) ∷
-    (ascii "BAN", Refused 28) ∷
+    (bare, Ok (Whole 17)) ∷
+    (bare ++ (0 ∷ []), Ok (Whole 17)) ∷
+    (take 16 bare, Ok (More 17)) ∷
+    (one, Ok (Whole 35)) ∷
+    (one ++ bare, Ok (Whole 35)) ∷
+    (take 34 one, Ok (More 35)) ∷
+    (take 30 one, Ok (More 31)) ∷
+    (take 28 one, Ok (More 29)) ∷
+    (take 24 one, Ok (More 25)) ∷
+    (take 20 one, Ok (More 21)) ∷
+    (announced 2 (97 ∷ 0 ∷ []), Ok (Whole 22)) ∷
+    (announced 0 [], Err 28) ∷
+    (announced 2 (0 ∷ 97 ∷ []), Err 28) ∷
+    (announced 1 (0 ∷ []), Ok (Whole 21)) ∷
+    (announced 4294967295 (97 ∷ 0 ∷ []), Ok (More 4294967311)) ∷
+    (magic ++ little 4 4294967295, Ok (More 4294967303)) ∷
+    (magic ++ little 4 0 ++ little 4 4294967295, Ok (More 16)) ∷
+    (ascii "BAM\t", Err 28) ∷
+    (ascii "X", Err 28) ∷
+    (ascii "BAN", Err 28) ∷
     []
 
 pub corners-told : map (λ c. binary_len c.0) corners ≡ map (λ c. c.1) corners

@@ -13,8 +13,9 @@ use Rattle.format.specs.Little.{of_little}
 use Rattle.lists.proofs.Bools.{eqb-sym, and_left, and_right}
 use Rattle.format.specs.Binary.{magic}
 use Rattle.binary_parts.proofs.Both.{start-long}
-use Rattle.binary_len.specs.declared.BinaryLen.{BinaryLen}
-use Rattle.binary_len.specs.declared.BinaryLen.TheVariants.{Whole, More, Refused}
+use Rattle.binary_len.specs.BinaryLen.{BinaryLen}
+use Rattle.binary_len.specs.declared.Len.TheVariants.{Whole, More}
+use Rattle.std.specs.Prelude.{Ok, Err}
 use Rattle.binary_len.specs.BinaryLen.{part, onward, number_at, closed, name_at, reference_at, references_at, start, binary_len}
 use Rattle.binary_len.proofs.PartByPart.{part-there, part_cut, part-whole}
 
@@ -54,15 +55,15 @@ starts_apart (a ∷ p) (b ∷ s) rest h k = go (eqb a b) (eqb b a) (eqb-sym a b)
     go false true e h k ih = absurd (false≢true e)
     go false false e h k ih = (refl, refl)
 
-start_is : (s : List ℕ) → starts magic s ≡ true → start s ≡ Whole 4
+start_is : (s : List ℕ) → starts magic s ≡ true → start s ≡ Ok (Whole 4)
 unfolding start
 start_is s e = rw e refl
 
-start-short : (s : List ℕ) → starts magic s ≡ false → starts s magic ≡ true → start s ≡ More 4
+start-short : (s : List ℕ) → starts magic s ≡ false → starts s magic ≡ true → start s ≡ Ok (More 4)
 unfolding start
 start-short s e f = rw (e, f) refl
 
-start_none : (s : List ℕ) → starts magic s ≡ false → starts s magic ≡ false → start s ≡ Refused 28
+start_none : (s : List ℕ) → starts magic s ≡ false → starts s magic ≡ false → start s ≡ Err 28
 unfolding start
 start_none s e f = rw (e, f) refl
 
@@ -80,22 +81,22 @@ begun s at = onward (part s (at + 4)) (texted s at)
 -- ---- of one answer: a length is within the bytes, more is beyond them, and a refusal is 28
 
 unfoldable pub Says : List ℕ → BinaryLen → Type 0
-Says s (Whole n) = n ≤ length s
-Says s (More n) = length s < n
-Says s (Refused n) = n ≡ 28
+Says s (Ok (Whole n)) = n ≤ length s
+Says s (Ok (More n)) = length s < n
+Says s (Err n) = n ≡ 28
 
-says-onward : (s : List ℕ) (a : BinaryLen) (f : ℕ → BinaryLen) → Says s a → ((n : ℕ) → a ≡ Whole n → n ≤ length s → Says s (f n)) → Says s (onward a f)
+says-onward : (s : List ℕ) (a : BinaryLen) (f : ℕ → BinaryLen) → Says s a → ((n : ℕ) → a ≡ Ok (Whole n) → n ≤ length s → Says s (f n)) → Says s (onward a f)
 unfolding Says onward
-says-onward s (Whole n) f h k = k n refl h
-says-onward s (More n) f h k = h
-says-onward s (Refused n) f h k = h
+says-onward s (Ok (Whole n)) f h k = k n refl h
+says-onward s (Ok (More n)) f h k = h
+says-onward s (Err n) f h k = h
 
 module _ (s : List ℕ) where
   says-part : (end : ℕ) → Says s (part s end)
   unfolding Says part
   says-part end = go (leb end (length s)) refl
     where
-      go : (t : Bool) → leb end (length s) ≡ t → Says s (cond t (Whole end) (More end))
+      go : (t : Bool) → leb end (length s) ≡ t → Says s (cond t (Ok (Whole end)) (Ok (More end)))
       go true q = leb-true end (length s) q
       go false q = leb-false end (length s) q
 
@@ -103,7 +104,7 @@ module _ (s : List ℕ) where
   unfolding Says closed
   says-closed end h = go (eqb (get_or s (end - 1) 0) 0)
     where
-      go : (t : Bool) → Says s (cond t (Whole end) (Refused 28))
+      go : (t : Bool) → Says s (cond t (Ok (Whole end)) (Err 28))
       go true = h
       go false = refl
 
@@ -111,7 +112,7 @@ module _ (s : List ℕ) where
   unfolding Says name_at
   says-name at n = go (eqb n 0)
     where
-      go : (t : Bool) → Says s (cond t (Refused 28) (onward (part s (at + n)) (closed s)))
+      go : (t : Bool) → Says s (cond t (Err 28) (onward (part s (at + n)) (closed s)))
       go true = refl
       go false = says-onward s (part s (at + n)) (closed s) (says-part (at + n)) (λ end e h. says-closed end h)
 
@@ -131,7 +132,7 @@ module _ (s : List ℕ) where
   unfolding Says start magic
   says-start = go (starts magic s) (starts s magic) refl refl
     where
-      go : (t u : Bool) → starts magic s ≡ t → starts s magic ≡ u → Says s (cond t (Whole 4) (cond u (More 4) (Refused 28)))
+      go : (t u : Bool) → starts magic s ≡ t → starts s magic ≡ u → Says s (cond t (Ok (Whole 4)) (cond u (Ok (More 4)) (Err 28)))
       go true u e f = start-long s e
       go false true e f = starts-front magic s e f
       go false false e f = refl
@@ -156,28 +157,28 @@ module _ (s : List ℕ) where
 -- ---- an answer that a longer front may give: no end lies before `m`
 
 unfoldable pub Later : ℕ → BinaryLen → Type 0
-Later m (Whole n) = m ≤ n
-Later m (More n) = m ≤ n
-Later m (Refused n) = Unit
+Later m (Ok (Whole n)) = m ≤ n
+Later m (Ok (More n)) = m ≤ n
+Later m (Err n) = Unit
 
 later-later : (m n : ℕ) (a : BinaryLen) → m ≤ n → Later n a → Later m a
 unfolding Later
-later-later m n (Whole k) h l = omega arith
-later-later m n (More k) h l = omega arith
-later-later m n (Refused k) h l = tt
+later-later m n (Ok (Whole k)) h l = omega arith
+later-later m n (Ok (More k)) h l = omega arith
+later-later m n (Err k) h l = tt
 
 later-onward : (m : ℕ) (a : BinaryLen) (f : ℕ → BinaryLen) → Later m a → ((n : ℕ) → Later n (f n)) → Later m (onward a f)
 unfolding Later onward
-later-onward m (Whole n) f h k = later-later m n (f n) h (k n)
-later-onward m (More n) f h k = h
-later-onward m (Refused n) f h k = tt
+later-onward m (Ok (Whole n)) f h k = later-later m n (f n) h (k n)
+later-onward m (Ok (More n)) f h k = h
+later-onward m (Err n) f h k = tt
 
 module _ (s : List ℕ) where
   later-part : (m end : ℕ) → m ≤ end → Later m (part s end)
   unfolding Later part
   later-part m end h = go (leb end (length s))
     where
-      go : (t : Bool) → Later m (cond t (Whole end) (More end))
+      go : (t : Bool) → Later m (cond t (Ok (Whole end)) (Ok (More end)))
       go true = h
       go false = h
 
@@ -185,7 +186,7 @@ module _ (s : List ℕ) where
   unfolding Later closed
   later-closed end = go (eqb (get_or s (end - 1) 0) 0)
     where
-      go : (t : Bool) → Later end (cond t (Whole end) (Refused 28))
+      go : (t : Bool) → Later end (cond t (Ok (Whole end)) (Err 28))
       go true = omega arith
       go false = tt
 
@@ -193,7 +194,7 @@ module _ (s : List ℕ) where
   unfolding Later name_at
   later-name at n = go (eqb n 0)
     where
-      go : (t : Bool) → Later at (cond t (Refused 28) (onward (part s (at + n)) (closed s)))
+      go : (t : Bool) → Later at (cond t (Err 28) (onward (part s (at + n)) (closed s)))
       go true = tt
       go false = later-onward at (part s (at + n)) (closed s) (later-part at (at + n) (omega arith)) later-closed
 
@@ -230,7 +231,7 @@ module _ (s : List ℕ) where
   unfolding Later start
   later-start = go (starts magic s) (starts s magic)
     where
-      go : (t u : Bool) → Later 4 (cond t (Whole 4) (cond u (More 4) (Refused 28)))
+      go : (t u : Bool) → Later 4 (cond t (Ok (Whole 4)) (cond u (Ok (More 4)) (Err 28)))
       go true u = omega arith
       go false true = omega arith
       go false false = tt
@@ -239,21 +240,21 @@ module _ (s : List ℕ) where
 
 unfoldable pub Grown : BinaryLen → BinaryLen → Type 0
 unfolding Later
-Grown (Whole n) b = b ≡ Whole n
-Grown (More n) b = Later n b
-Grown (Refused n) b = b ≡ Refused n
+Grown (Ok (Whole n)) b = b ≡ Ok (Whole n)
+Grown (Ok (More n)) b = Later n b
+Grown (Err n) b = b ≡ Err n
 
-grown-onward : (a b : BinaryLen) (f g : ℕ → BinaryLen) → Grown a b → ((n : ℕ) → a ≡ Whole n → Grown (f n) (g n)) → ((n : ℕ) → Later n (g n)) → Grown (onward a f) (onward b g)
+grown-onward : (a b : BinaryLen) (f g : ℕ → BinaryLen) → Grown a b → ((n : ℕ) → a ≡ Ok (Whole n) → Grown (f n) (g n)) → ((n : ℕ) → Later n (g n)) → Grown (onward a f) (onward b g)
 unfolding Grown onward
-grown-onward (Whole n) b f g h k l = rw h (k n refl)
-grown-onward (More n) b f g h k l = later-onward n b g h l
-grown-onward (Refused n) b f g h k l = rw h refl
+grown-onward (Ok (Whole n)) b f g h k l = rw h (k n refl)
+grown-onward (Ok (More n)) b f g h k l = later-onward n b g h l
+grown-onward (Err n) b f g h k l = rw h refl
 
 same-grown : (a b : BinaryLen) → a ≡ b → Grown a b
 unfolding Grown Later
-same-grown (Whole n) b e = sym e
-same-grown (More n) b e = rw (← e) (omega arith)
-same-grown (Refused n) b e = sym e
+same-grown (Ok (Whole n)) b e = sym e
+same-grown (Ok (More n)) b e = rw (← e) (omega arith)
+same-grown (Err n) b e = sym e
 
 module _ (s rest : List ℕ) where
   pub longer : length s ≤ length (s ++ rest)
@@ -282,7 +283,7 @@ module _ (s rest : List ℕ) where
   grown-name at n = go (eqb n 0) refl
     where
       go : (t : Bool) → eqb n 0 ≡ t
-          → Grown (cond t (Refused 28) (onward (part s (at + n)) (closed s))) (cond t (Refused 28) (onward (part (s ++ rest) (at + n)) (closed (s ++ rest))))
+          → Grown (cond t (Err 28) (onward (part s (at + n)) (closed s))) (cond t (Err 28) (onward (part (s ++ rest) (at + n)) (closed (s ++ rest))))
       go true q = refl
       go false q =
           grown-onward (part s (at + n)) (part (s ++ rest) (at + n)) (closed s) (closed (s ++ rest)) (grown-part (at + n))

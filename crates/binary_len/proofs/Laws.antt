@@ -12,8 +12,9 @@ use Rattle.lists.proofs.Bools.{never}
 use Rattle.format.specs.Binary.{binary, binary_parts}
 use Rattle.binary_bytes.proofs.Parts.{parts-back}
 use Rattle.binary_laws.proofs.Refusal.{taken-apart}
-use Rattle.binary_len.specs.declared.BinaryLen.{BinaryLen}
-use Rattle.binary_len.specs.declared.BinaryLen.TheVariants.{Whole, More, Refused}
+use Rattle.binary_len.specs.BinaryLen.{BinaryLen}
+use Rattle.binary_len.specs.declared.Len.TheVariants.{Whole, More}
+use Rattle.std.specs.Prelude.{Ok, Err}
 use Rattle.binary_len.specs.BinaryLen.{binary_len}
 use Rattle.binary_len.specs.Step.{at_first, Resumes}
 use Rattle.binary_len.specs.Laws.{some?, is_binary, WholeIsBinary, BinaryIsWhole, OneLength, WholeIsNot28, WrittenIsWhole}
@@ -24,7 +25,7 @@ use Rattle.binary_len.proofs.Resume.{from_start}
 
 -- ---- of one answer
 
-whole-within : (s : List ℕ) (n : ℕ) → binary_len s ≡ Whole n → n ≤ length s
+whole-within : (s : List ℕ) (n : ℕ) → binary_len s ≡ Ok (Whole n) → n ≤ length s
 unfolding Says
 whole-within s n e = rw e at (says s)
 
@@ -32,7 +33,7 @@ pub more-is-more : MoreIsMore
 unfolding MoreIsMore Says
 more-is-more s n e = rw e at (says s)
 
-refused-28 : (s : List ℕ) (n : ℕ) → binary_len s ≡ Refused n → n ≡ 28
+refused-28 : (s : List ℕ) (n : ℕ) → binary_len s ≡ Err n → n ≡ 28
 unfolding Says
 refused-28 s n e = rw e at (says s)
 
@@ -46,7 +47,7 @@ pub refused-stays : RefusedStays
 unfolding RefusedStays Grown
 refused-stays s rest n e =
     let k : n ≡ 28 = refused-28 s n e in
-    (k, (rw e at (grown s rest)) ∙ ap Refused k)
+    (k, (rw e at (grown s rest)) ∙ ap Err k)
 
 pub more-is-needed : MoreIsNeeded
 unfolding MoreIsNeeded Grown Later
@@ -54,41 +55,41 @@ more-is-needed s rest m n e f = rw (e, f) at (grown s rest)
 
 -- ---- exactly
 
-ends-whole : (s : List ℕ) (a : BinaryLen) → ends s a ≡ true → a ≡ Whole (length s)
+ends-whole : (s : List ℕ) (a : BinaryLen) → ends s a ≡ true → a ≡ Ok (Whole (length s))
 unfolding ends
-ends-whole s (Whole n) e = ap Whole (eqb-true n (length s) e)
-ends-whole s (More n) e = absurd (false≢true e)
-ends-whole s (Refused n) e = absurd (false≢true e)
+ends-whole s (Ok (Whole n)) e = ap (λ n. Ok (Whole n)) (eqb-true n (length s) e)
+ends-whole s (Ok (More n)) e = absurd (false≢true e)
+ends-whole s (Err n) e = absurd (false≢true e)
 
 -- a front whose length as a header is all of it
-front-whole : (t rest : List ℕ) → binary_len (t ++ rest) ≡ Whole (length t) → binary_len t ≡ Whole (length t)
+front-whole : (t rest : List ℕ) → binary_len (t ++ rest) ≡ Ok (Whole (length t)) → binary_len t ≡ Ok (Whole (length t))
 unfolding Says Grown Later
 front-whole t rest e = go (binary_len t) (says t) (grown t rest)
   where
-    go : (a : BinaryLen) → Says t a → Grown a (binary_len (t ++ rest)) → a ≡ Whole (length t)
-    go (Whole n) h g = sym g ∙ e
-    go (More n) h g = let l : n ≤ length t = rw e at g in absurd (omega arith)
-    go (Refused n) h g = absurd (never (cc))
+    go : (a : BinaryLen) → Says t a → Grown a (binary_len (t ++ rest)) → a ≡ Ok (Whole (length t))
+    go (Ok (Whole n)) h g = sym g ∙ e
+    go (Ok (More n)) h g = let l : n ≤ length t = rw e at g in absurd (omega arith)
+    go (Err n) h g = absurd (never (cc))
 
 pub whole-is-binary : WholeIsBinary
 unfolding WholeIsBinary ends
 whole-is-binary s n e =
     let h : n ≤ length s = whole-within s n e in
     let l : length (take n s) ≡ n = length-take-le n s h in
-    let q : binary_len (take n s ++ drop n s) ≡ Whole (length (take n s)) = ap binary_len (take-append-drop n s) ∙ e ∙ ap Whole (sym l) in
+    let q : binary_len (take n s ++ drop n s) ≡ Ok (Whole (length (take n s))) = ap binary_len (take-append-drop n s) ∙ e ∙ ap (λ n. Ok (Whole n)) (sym l) in
     (h, apart (take n s) ∙ ap (ends (take n s)) (front-whole (take n s) (drop n s) q) ∙ eq-eqb (length (take n s)) (length (take n s)) refl)
 
 pub binary-is-whole : BinaryIsWhole
 unfolding BinaryIsWhole WholeStays
 binary-is-whole s n h e =
     let l : length (take n s) ≡ n = length-take-le n s h in
-    let q : binary_len (take n s) ≡ Whole n = ends-whole (take n s) (binary_len (take n s)) (sym (apart (take n s)) ∙ e) ∙ ap Whole l in
+    let q : binary_len (take n s) ≡ Ok (Whole n) = ends-whole (take n s) (binary_len (take n s)) (sym (apart (take n s)) ∙ e) ∙ ap (λ n. Ok (Whole n)) l in
     ap binary_len (sym (take-append-drop n s)) ∙ whole-stays (take n s) (drop n s) n q
 
 pub one-length : OneLength
 unfolding OneLength BinaryIsWhole
 one-length s m n h k e f =
-    let p : Whole m ≡ Whole n = sym (binary-is-whole s m h e) ∙ binary-is-whole s n k f in
+    let p : ◌≡◌ {A = BinaryLen} (Ok (Whole m)) (Ok (Whole n)) = sym (binary-is-whole s m h e) ∙ binary-is-whole s n k f in
     cc
 
 -- ---- what was written
@@ -124,9 +125,9 @@ module _ (s : List ℕ) where
   lends (suc k) m h = go (binary_len (take m s)) refl (λ n. lends k n)
     where
       go : (a : BinaryLen) → binary_len (take m s) ≡ a → ((n : ℕ) → length s ≤ k + n → lending k s n ≡ binary_len s) → on_more a (lending k s) ≡ binary_len s
-      go (Whole n) e ih = sym (front m ∙ whole-stays (take m s) (drop m s) n e)
-      go (More n) e ih = ih n (omega (arith, more-is-more (take m s) n e, length-take m s))
-      go (Refused n) e ih = let r = refused-stays (take m s) (drop m s) n e in ap Refused r.0 ∙ sym (front m ∙ r.1)
+      go (Ok (Whole n)) e ih = sym (front m ∙ whole-stays (take m s) (drop m s) n e)
+      go (Ok (More n)) e ih = ih n (omega (arith, more-is-more (take m s) n e, length-take m s))
+      go (Err n) e ih = let r = refused-stays (take m s) (drop m s) n e in ap Err r.0 ∙ sym (front m ∙ r.1)
 
 pub lending-ends : LendingEnds
 unfolding LendingEnds

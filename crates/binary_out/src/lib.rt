@@ -15,11 +15,9 @@ ghost use Rattle.read.specs.Answers.{answer_of, output_of};
 ghost use Rattle.tidy_text.specs.Sizes.{sizes_of};
 ghost use Rattle.binary_out.specs.Written.{binary_of, writing_binary};
 
-use format::LineNo;
+use format::Refusal;
 use read::CountAnswer;
-use read_judge::Judged;
 use tidy_sizes::PerKind;
-use tidy_text::Measured;
 
 // Writes what comes before the text: the magic bytes, and the length `n` of the text.
 fn put_front(out: &mut [u8], n: usize)
@@ -69,18 +67,18 @@ fn write_accepted(text: &[u8], strict: bool, out: &mut [u8]) -> CountAnswer
     ensures wrote { out.new ≡ output_of (writing_binary text.now (length out.old)) out.old }
 {
     match tidy_text::measure(text, strict) {
-        Measured::Unwritable(line) => CountAnswer::Refused(24, line),
-        Measured::Is(sizes) => {
+        Err(line) => Err(Refusal { number: 24, line }),
+        Ok(sizes) => {
             let n = sizes.total();
             let list = binary_put::measure_list(text, strict);
             let besides = 12 + list.bytes;
             let unfit = tidy_sizes::fit(n, 0, besides, out.len());
             if unfit != 0 {
-                return CountAnswer::Refused(unfit, LineNo(0));
+                return Err(Refusal::of_text(unfit));
             }
             let whole = n + besides;
             put_binary(text, strict, sizes, n, list.count, out);
-            CountAnswer::Count(whole)
+            Ok(whole)
         }
     }
 }
@@ -90,8 +88,6 @@ pub fn binary_out(text: &[u8], out: &mut [u8]) -> CountAnswer
     ensures answer { result ≡ answer_of (binary_out text.now (length out.old)) }
     ensures wrote { out.new ≡ output_of (binary_out text.now (length out.old)) out.old }
 {
-    match read_judge::judge(text) {
-        Judged::Refused(n, line) => CountAnswer::Refused(n, line),
-        Judged::Accepted(_, once) => write_accepted(text, once, out),
-    }
+    let accepted = read_judge::judge(text)?;
+    write_accepted(text, accepted.once, out)
 }

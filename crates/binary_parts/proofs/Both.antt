@@ -3,7 +3,9 @@ use Prim.Native.Nat.{ℕ, ◌+◌, ◌≤◌}
 use mathlib.Core.Path.{◌≡◌, refl, sym, ◌∙◌}
 use mathlib.Core.Bool.{Bool, true, false, cond, false≢true}
 use mathlib.Core.List.{List}
-use mathlib.Core.Option.{Option, none, some}
+use mathlib.Core.Option as maybe
+use mathlib.Core.Option.{none, some}
+use Rattle.std.specs.Prelude.{None, Some}
 use borrow.Author.Tests.{leb-true, leb-false}
 use lib.Dec.{leb}
 use lib.ListN.{length, take, drop}
@@ -15,27 +17,36 @@ use Rattle.binary_parts.specs.declared.NumberAt.{NumberAt}
 use Rattle.binary_parts.specs.declared.RunAt.{RunAt}
 use Rattle.binary_parts.specs.Parts.{number_taken, run_from, is_whole, listed, parts_from}
 
-module _ (s : List ℕ) (at : ℕ) (t : RunAt) (e : take_sized (drop at s) ≡ run_from s t) where
-  pub both-none : t.ok ≡ false → take_both (drop at s) ≡ none
-  unfolding take_both and_then run_from
-  both-none f = rw (e, f) refl
+module _ (s : List ℕ) (at : ℕ) where
+  pub both-none : take_sized (drop at s) ≡ run_from s None → take_both (drop at s) ≡ parts_from s None
+  unfolding take_both and_then run_from parts_from
+  both-none e = rw e refl
 
-  module _ (o : t.ok ≡ true) (n : NumberAt) (k : take_number (drop (t.at + t.len) s) ≡ number_taken s n) where
-    pub both-short : n.ok ≡ false → take_both (drop at s) ≡ none
-    unfolding take_both and_then run_from number_taken
-    both-short f = rw (e, o, k, f) refl
+  module _ (t : RunAt) (e : take_sized (drop at s) ≡ run_from s (Some t)) where
+    pub both-short : take_number (drop (t.at + t.len) s) ≡ number_taken s None → take_both (drop at s) ≡ parts_from s None
+    unfolding take_both and_then run_from number_taken parts_from
+    both-short k = rw (e, k) refl
 
-    pub both_at_lem : n.ok ≡ true → (w : Bool) → w ≡ is_whole (take_list n.value (drop n.next s))
-        → take_both (drop at s) ≡ parts_from s (record { ok = w; text = t.at; len = t.len; list = n.next; count = n.value })
-    unfolding take_both and_then run_from number_taken parts_from is_whole listed
-    both_at_lem q w i = rw (e, o, k, q, i) (go (take_list n.value (drop n.next s)))
-      where
-        text : List ℕ
-        text = take t.len (drop t.at s)
+    module _ (n : NumberAt) (k : take_number (drop (t.at + t.len) s) ≡ number_taken s (Some n)) where
+      text : List ℕ
+      text = take t.len (drop t.at s)
 
-        go : (l : Option (List Reference × List ℕ)) → and_then {B = List ℕ × List Reference} l (λ list. cond (none? list.1) (some (text, list.0)) none) ≡ cond (is_whole l) (some (text, listed l)) none
-        go none = refl
-        go (some p) = refl
+      both-is : take_both (drop at s) ≡ cond (is_whole (take_list n.value (drop n.next s))) (some (text, listed (take_list n.value (drop n.next s)))) none
+      unfolding take_both and_then run_from number_taken is_whole listed text
+      both-is = rw (e, k) (go (take_list n.value (drop n.next s)))
+        where
+          go : (l : maybe.Option (List Reference × List ℕ)) → and_then {B = List ℕ × List Reference} l (λ list. cond (none? list.1) (some (text, list.0)) none) ≡ cond (is_whole l) (some (text, listed l)) none
+          go none = refl
+          go (some p) = refl
+
+      pub both-more : is_whole (take_list n.value (drop n.next s)) ≡ false → take_both (drop at s) ≡ parts_from s None
+      unfolding parts_from
+      both-more i = both-is ∙ rw i refl
+
+      pub both-whole : is_whole (take_list n.value (drop n.next s)) ≡ true
+          → take_both (drop at s) ≡ parts_from s (Some (record { text = t.at; len = t.len; list = n.next; count = n.value }))
+      unfolding parts_from text
+      both-whole i = both-is ∙ rw i refl
 
 -- ---- `BAM` and 1
 

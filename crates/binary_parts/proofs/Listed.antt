@@ -1,9 +1,11 @@
 -- A reference list, one reference after another.
 use Prim.Native.Nat.{ℕ, suc, ◌-◌, ◌≤◌, ◌<◌}
 use mathlib.Core.Path.{◌≡◌, refl, sym, ap, ◌∙◌}
-use mathlib.Core.Bool.{Bool, true, false, false≢true}
+use mathlib.Core.Bool.{true, false, false≢true}
 use mathlib.Core.List.{List, [], ◌∷◌}
-use mathlib.Core.Option.{Option, none, some}
+use mathlib.Core.Option as maybe
+use mathlib.Core.Option.{none, some}
+use Rattle.std.specs.Prelude.{Option, None, Some}
 use native.Mathlib.Omega.{arith}
 use lib.ListN.{length, drop, length-drop}
 use lib.Dec.{eqb}
@@ -14,44 +16,39 @@ use Rattle.format.specs.Binary.{and_then, take_reference, take_list}
 use Rattle.binary_parts.specs.declared.ReferenceAt.{ReferenceAt}
 use Rattle.binary_parts.specs.Parts.{reference_in, reference_from, is_whole, listed}
 
-module _ (s : List ℕ) (at left : ℕ) (k : 0 < left) (r : ReferenceAt) (e : take_reference (drop at s) ≡ reference_from s r) where
+module _ (s : List ℕ) (at left : ℕ) (k : 0 < left) where
   one_less : left ≡ suc (left - 1)
   one_less = omega arith
 
-  pub list-short : r.ok ≡ false → is_whole (take_list left (drop at s)) ≡ false
+  pub list-short : take_reference (drop at s) ≡ reference_from s None → is_whole (take_list left (drop at s)) ≡ false
   unfolding is_whole take_list and_then reference_from
-  list-short f = ap (λ n. is_whole (take_list n (drop at s))) one_less ∙ rw (e, f) refl
-
-  opened : r.ok ≡ true → take_list left (drop at s) ≡ and_then (take_list (left - 1) (drop r.next s)) (λ rs. some (reference_in s r ∷ rs.0, rs.1))
-  unfolding take_list and_then reference_from reference_in
-  opened t = ap (λ n. take_list n (drop at s)) one_less ∙ rw (e, t) refl
-
-  pub list_on : r.ok ≡ true → is_whole (take_list left (drop at s)) ≡ is_whole (take_list (left - 1) (drop r.next s))
-  unfolding is_whole and_then
-  list_on t = ap is_whole (opened t) ∙ go (take_list (left - 1) (drop r.next s))
-    where
-      go : (o : Option (List Reference × List ℕ)) → is_whole (and_then o (λ rs. some (reference_in s r ∷ rs.0, rs.1))) ≡ is_whole o
-      go none = refl
-      go (some p) = refl
+  list-short e = ap (λ n. is_whole (take_list n (drop at s))) one_less ∙ rw e refl
 
   -- a whole list has its first reference
-  pub list-whole : is_whole (take_list left (drop at s)) ≡ true → r.ok ≡ true
-  list-whole w = go r.ok refl
-    where
-      go : (b : Bool) → r.ok ≡ b → r.ok ≡ true
-      go true q = q
-      go false q = absurd (false≢true (sym (list-short q) ∙ w))
+  pub list-whole : (r : Option ReferenceAt) → take_reference (drop at s) ≡ reference_from s r → is_whole (take_list left (drop at s)) ≡ true → r ≡ None → ⊥
+  list-whole r e w z = false≢true (sym (list-short (e ∙ ap (reference_from s) z)) ∙ w)
 
-  pub list-first : is_whole (take_list left (drop at s)) ≡ true
-      → listed (take_list left (drop at s)) ≡ reference_in s r ∷ listed (take_list (left - 1) (drop r.next s))
-  unfolding is_whole and_then listed
-  list-first w =
-      let t : r.ok ≡ true = list-whole w in
-      ap listed (opened t) ∙ go (take_list (left - 1) (drop r.next s)) (sym (list_on t) ∙ w)
-    where
-      go : (o : Option (List Reference × List ℕ)) → is_whole o ≡ true → listed (and_then o (λ rs. some (reference_in s r ∷ rs.0, rs.1))) ≡ reference_in s r ∷ listed o
-      go none q = absurd (false≢true q)
-      go (some p) q = refl
+  module _ (r : ReferenceAt) (e : take_reference (drop at s) ≡ reference_from s (Some r)) where
+    opened : take_list left (drop at s) ≡ and_then (take_list (left - 1) (drop r.next s)) (λ rs. some (reference_in s r ∷ rs.0, rs.1))
+    unfolding take_list and_then reference_from reference_in
+    opened = ap (λ n. take_list n (drop at s)) one_less ∙ rw e refl
+
+    pub list_on : is_whole (take_list left (drop at s)) ≡ is_whole (take_list (left - 1) (drop r.next s))
+    unfolding is_whole and_then
+    list_on = ap is_whole opened ∙ go (take_list (left - 1) (drop r.next s))
+      where
+        go : (o : maybe.Option (List Reference × List ℕ)) → is_whole (and_then o (λ rs. some (reference_in s r ∷ rs.0, rs.1))) ≡ is_whole o
+        go none = refl
+        go (some p) = refl
+
+    pub list-first : is_whole (take_list left (drop at s)) ≡ true
+        → listed (take_list left (drop at s)) ≡ reference_in s r ∷ listed (take_list (left - 1) (drop r.next s))
+    unfolding is_whole and_then listed
+    list-first w = ap listed opened ∙ go (take_list (left - 1) (drop r.next s)) (sym list_on ∙ w)
+      where
+        go : (o : maybe.Option (List Reference × List ℕ)) → is_whole o ≡ true → listed (and_then o (λ rs. some (reference_in s r ∷ rs.0, rs.1))) ≡ reference_in s r ∷ listed o
+        go none h = absurd (false≢true h)
+        go (some p) h = refl
 
 pub list-end : (s : List ℕ) (at : ℕ) → at ≤ length s → eqb at (length s) ≡ is_whole (take_list 0 (drop at s))
 unfolding is_whole take_list none?

@@ -1,7 +1,6 @@
 -- What is taken off the bytes from a place on: the places say what is there.
 use Prim.Native.Nat.{ℕ, ◌+◌, ◌-◌, ◌≤◌, ◌<◌}
 use mathlib.Core.Path.{◌≡◌, refl, ◌∙◌}
-use mathlib.Core.Bool.{Bool, true, false, cond}
 use mathlib.Core.List.{List}
 use mathlib.Core.Option.{none, some}
 use native.Mathlib.Omega.{arith}
@@ -9,11 +8,11 @@ use lib.ListN.{length, take, drop, length-drop}
 use lib.Seq.{drop-drop}
 use borrow.Author.Tests.{le-leb, lt-leb}
 use Rattle.format.specs.Little.{of_little}
-use Rattle.format.specs.References.{Reference}
 use Rattle.format.specs.Binary.{and_then, take_bytes, take_number, take_sized, closed_name, take_reference}
 use Rattle.binary_parts.specs.declared.NumberAt.{NumberAt}
 use Rattle.binary_parts.specs.declared.RunAt.{RunAt}
-use Rattle.binary_parts.specs.Parts.{number_taken, run_from, reference_from}
+use Rattle.binary_parts.specs.Parts.{number_taken, run_from, reference_in, reference_from}
+use Rattle.std.specs.Prelude.{None, Some}
 
 -- ---- bytes and numbers
 
@@ -37,41 +36,40 @@ module _ (s : List ℕ) (at : ℕ) where
 
 -- ---- a run of bytes after its length
 
-module _ (s : List ℕ) (at : ℕ) (n : NumberAt) (e : take_number (drop at s) ≡ number_taken s n) where
-  pub sized-none : n.ok ≡ false → take_sized (drop at s) ≡ none
-  unfolding take_sized and_then number_taken
-  sized-none f = rw (e, f) refl
+module _ (s : List ℕ) (at : ℕ) where
+  pub sized-none : take_number (drop at s) ≡ number_taken s None → take_sized (drop at s) ≡ run_from s None
+  unfolding take_sized and_then number_taken run_from
+  sized-none e = rw e refl
 
-  sized-is : n.ok ≡ true → take_sized (drop at s) ≡ take_bytes n.value (drop n.next s)
-  unfolding take_sized and_then number_taken
-  sized-is t = rw (e, t) refl
+  module _ (n : NumberAt) (e : take_number (drop at s) ≡ number_taken s (Some n)) where
+    sized-is : take_sized (drop at s) ≡ take_bytes n.value (drop n.next s)
+    unfolding take_sized and_then number_taken
+    sized-is = rw e refl
 
-  pub sized-short : n.ok ≡ true → length s - n.next < n.value → take_sized (drop at s) ≡ none
-  sized-short t k = sized-is t ∙ bytes-short s n.next n.value k
+    pub sized-short : length s - n.next < n.value → take_sized (drop at s) ≡ none
+    sized-short k = sized-is ∙ bytes-short s n.next n.value k
 
-  pub sized-at : n.ok ≡ true → n.value ≤ length s - n.next
-      → take_sized (drop at s) ≡ some (take n.value (drop n.next s), drop (n.next + n.value) s)
-  sized-at t k = sized-is t ∙ bytes-at s n.next n.value k
+    pub sized-at : n.value ≤ length s - n.next → take_sized (drop at s) ≡ some (take n.value (drop n.next s), drop (n.next + n.value) s)
+    sized-at k = sized-is ∙ bytes-at s n.next n.value k
 
 -- ---- a reference
 
-module _ (s : List ℕ) (at : ℕ) (r : RunAt) (e : take_sized (drop at s) ≡ run_from s r) where
-  pub reference-none : r.ok ≡ false → take_reference (drop at s) ≡ none
-  unfolding take_reference and_then run_from
-  reference-none f = rw (e, f) refl
+module _ (s : List ℕ) (at : ℕ) where
+  pub reference-none : take_sized (drop at s) ≡ run_from s None → take_reference (drop at s) ≡ reference_from s None
+  unfolding take_reference and_then run_from reference_from
+  reference-none e = rw e refl
 
-  module _ (t : r.ok ≡ true) where
-    pub reference-open : closed_name (take r.len (drop r.at s)) ≡ none → take_reference (drop at s) ≡ none
-    unfolding take_reference and_then run_from
-    reference-open o = rw (e, t, o) refl
+  module _ (r : RunAt) (e : take_sized (drop at s) ≡ run_from s (Some r)) where
+    pub reference-open : closed_name (take r.len (drop r.at s)) ≡ none → take_reference (drop at s) ≡ reference_from s None
+    unfolding take_reference and_then run_from reference_from
+    reference-open o = rw (e, o) refl
 
-    pub reference-at : (m : ℕ) (n : NumberAt) → closed_name (take r.len (drop r.at s)) ≡ some (take m (drop r.at s))
-        → take_number (drop (r.at + r.len) s) ≡ number_taken s n
-        → take_reference (drop at s) ≡ reference_from s (record { ok = n.ok; name = r.at; len = m; size = n.value; next = n.next })
-    unfolding take_reference and_then run_from number_taken reference_from
-    reference-at m n o k = rw (e, t, o, k) (go n.ok)
-      where
-        go : (b : Bool) → and_then {A = ℕ × List ℕ} {B = Reference × List ℕ} (cond b (some (n.value, drop n.next s)) none) (λ x. some (record { name = take m (drop r.at s); size = x.0 }, x.1))
-            ≡ cond b (some (record { name = take m (drop r.at s); size = n.value }, drop n.next s)) none
-        go true = refl
-        go false = refl
+    module _ (m : ℕ) (o : closed_name (take r.len (drop r.at s)) ≡ some (take m (drop r.at s))) where
+      pub reference-short : take_number (drop (r.at + r.len) s) ≡ number_taken s None → take_reference (drop at s) ≡ reference_from s None
+      unfolding take_reference and_then run_from number_taken reference_from
+      reference-short k = rw (e, o, k) refl
+
+      pub reference-at : (n : NumberAt) → take_number (drop (r.at + r.len) s) ≡ number_taken s (Some n)
+          → take_reference (drop at s) ≡ reference_from s (Some (record { name = r.at; len = m; size = n.value; next = n.next }))
+      unfolding take_reference and_then run_from number_taken reference_from reference_in
+      reference-at n k = rw (e, o, k) refl

@@ -1,7 +1,7 @@
 // Takes a binary header apart: where its text and its reference list are, or that the bytes are not a binary header.
 #![tactic(auto)]
 
-ghost use Rattle.std.specs.Prelude.{◌≡◌, ◌+◌, ◌≤◌, eqb, length, drop};
+ghost use Rattle.std.specs.Prelude.{◌≡◌, ◌+◌, ◌≤◌, eqb, length, drop, IfSome};
 ghost use Rattle.format.specs.Programs.{last_or};
 ghost use Rattle.format.specs.Binary.{take_number, take_sized, take_reference, take_list, take_both, binary_parts, unpadded};
 ghost use Rattle.binary_parts.specs.Parts.{number_taken, run_from, reference_from, is_whole, parts_from, PartsStand};
@@ -10,7 +10,6 @@ ghost use Rattle.binary_parts.specs.Places.{number_at, run_at, reference_at, bot
 // A number, and where the bytes after it start.
 #[derive(Clone, Copy)]
 pub struct NumberAt {
-    pub ok: bool,
     pub value: u32,
     pub next: usize,
 }
@@ -18,7 +17,6 @@ pub struct NumberAt {
 // A run of bytes. The bytes after it start at its end.
 #[derive(Clone, Copy)]
 pub struct RunAt {
-    pub ok: bool,
     pub at: usize,
     pub len: usize,
 }
@@ -26,7 +24,6 @@ pub struct RunAt {
 // A reference: where its name is, its length, and where the bytes after it start.
 #[derive(Clone, Copy)]
 pub struct ReferenceAt {
-    pub ok: bool,
     pub name: usize,
     pub len: usize,
     pub size: u32,
@@ -36,7 +33,6 @@ pub struct ReferenceAt {
 // Where the text is, where the reference list starts, and how many references it has.
 #[derive(Clone, Copy)]
 pub struct PartsAt {
-    pub ok: bool,
     pub text: usize,
     pub len: usize,
     pub list: usize,
@@ -44,51 +40,36 @@ pub struct PartsAt {
 }
 
 // The number in the four bytes at `at`, if there are four.
-fn take_number(bytes: &[u8], at: usize) -> NumberAt
+fn take_number(bytes: &[u8], at: usize) -> Option<NumberAt>
     requires { at ≤ length bytes.now }
     ensures taken { take_number (drop at bytes.now) ≡ number_taken bytes.now result }
-    ensures inside { result.next ≤ length bytes.now }
+    ensures inside { IfSome result (λ n. n.next ≤ length bytes.now) }
     ensures is { result ≡ number_at bytes.now at }
 {
     if bytes.len() - at < 4 {
-        return NumberAt {
-            ok: false,
-            value: 0,
-            next: at,
-        };
+        return None;
     }
     let value = little_endian::get_u32(bytes, at);
-    NumberAt {
-        ok: true,
+    Some(NumberAt {
         value,
         next: at + 4,
-    }
+    })
 }
 
 // The run of bytes at `at`, which comes after its length.
-fn take_sized(bytes: &[u8], at: usize) -> RunAt
+fn take_sized(bytes: &[u8], at: usize) -> Option<RunAt>
     requires { at ≤ length bytes.now }
     ensures taken { take_sized (drop at bytes.now) ≡ run_from bytes.now result }
-    ensures inside { result.at + result.len ≤ length bytes.now }
+    ensures inside { IfSome result (λ r. r.at + r.len ≤ length bytes.now) }
     ensures is { result ≡ run_at bytes.now at }
 {
-    let number = take_number(bytes, at);
+    let number = take_number(bytes, at)?;
     let start = number.next;
     let len = number.value as usize;
-    if number.ok {
-        if len <= bytes.len() - start {
-            return RunAt {
-                ok: true,
-                at: start,
-                len,
-            };
-        }
+    if bytes.len() - start < len {
+        return None;
     }
-    RunAt {
-        ok: false,
-        at,
-        len: 0,
-    }
+    Some(RunAt { at: start, len })
 }
 
 // Whether a zero byte is at the end of the run. An empty run has none.
@@ -102,36 +83,27 @@ fn is_closed(run: &[u8]) -> bool
     run[n - 1] == 0
 }
 
-// The reference at `at`.
-pub fn take_reference(bytes: &[u8], at: usize) -> ReferenceAt
+// The reference at `at`, if there is one.
+pub fn take_reference(bytes: &[u8], at: usize) -> Option<ReferenceAt>
     requires { at ≤ length bytes.now }
     ensures taken { take_reference (drop at bytes.now) ≡ reference_from bytes.now result }
-    ensures inside { result.next ≤ length bytes.now }
-    ensures name { result.name + result.len ≤ length bytes.now }
+    ensures inside { IfSome result (λ r. r.next ≤ length bytes.now) }
+    ensures name { IfSome result (λ r. r.name + r.len ≤ length bytes.now) }
     ensures is { result ≡ reference_at bytes.now at }
 {
-    let run = take_sized(bytes, at);
+    let run = take_sized(bytes, at)?;
     let start = run.at;
-    let end = run.at + run.len;
-    if run.ok {
-        if is_closed(&bytes[start..end]) {
-            let size = take_number(bytes, end);
-            return ReferenceAt {
-                ok: size.ok,
-                name: start,
-                len: run.len - 1,
-                size: size.value,
-                next: size.next,
-            };
-        }
+    let end = start + run.len;
+    if !is_closed(&bytes[start..end]) {
+        return None;
     }
-    ReferenceAt {
-        ok: false,
-        name: at,
-        len: 0,
-        size: 0,
-        next: at,
-    }
+    let size = take_number(bytes, end)?;
+    Some(ReferenceAt {
+        name: start,
+        len: run.len - 1,
+        size: size.value,
+        next: size.next,
+    })
 }
 
 // Whether `count` references start at `start` and nothing follows them.
@@ -140,77 +112,55 @@ fn is_whole_list(bytes: &[u8], start: usize, count: u32) -> bool
     ensures { result ≡ is_whole (take_list count (drop start bytes.now)) }
 {
     let mut at = start;
-    let mut left = count;
-    while 0 < left {
-        let reference = take_reference(bytes, at);
-        if !reference.ok {
+    for _ in 0..count {
+        let Some(reference) = take_reference(bytes, at) else {
             return false;
-        }
+        };
         at = reference.next;
-        left -= 1;
     }
     at == bytes.len()
 }
 
 // The text and the reference list at `at`, if nothing follows them.
-fn take_both(bytes: &[u8], at: usize) -> PartsAt
+fn take_both(bytes: &[u8], at: usize) -> Option<PartsAt>
     requires { at ≤ length bytes.now }
     ensures taken { take_both (drop at bytes.now) ≡ parts_from bytes.now result }
-    ensures stands { PartsStand bytes.now result }
+    ensures stands { IfSome result (λ p. PartsStand bytes.now p) }
     ensures is { result ≡ both_at bytes.now at }
 {
-    let text = take_sized(bytes, at);
-    if text.ok {
-        let end = text.at + text.len;
-        let count = take_number(bytes, end);
-        if count.ok {
-            let ok = is_whole_list(bytes, count.next, count.value);
-            return PartsAt {
-                ok,
-                text: text.at,
-                len: text.len,
-                list: count.next,
-                count: count.value,
-            };
-        }
+    let text = take_sized(bytes, at)?;
+    let count = take_number(bytes, text.at + text.len)?;
+    if !is_whole_list(bytes, count.next, count.value) {
+        return None;
     }
-    PartsAt {
-        ok: false,
-        text: 0,
-        len: 0,
-        list: 0,
-        count: 0,
-    }
+    Some(PartsAt {
+        text: text.at,
+        len: text.len,
+        list: count.next,
+        count: count.value,
+    })
 }
 
 // The parts of a binary header: `BAM` and the byte 1 at the start, then the text and the reference list.
-pub fn parts(bytes: &[u8]) -> PartsAt
+pub fn parts(bytes: &[u8]) -> Option<PartsAt>
     ensures taken { binary_parts bytes.now ≡ parts_from bytes.now result }
-    ensures stands { PartsStand bytes.now result }
+    ensures stands { IfSome result (λ p. PartsStand bytes.now p) }
     ensures is { result ≡ parts_at bytes.now }
 {
-    if byte_slices::starts(b"BAM\x01", bytes) {
-        return take_both(bytes, 4);
+    if !byte_slices::starts(b"BAM\x01", bytes) {
+        return None;
     }
-    PartsAt {
-        ok: false,
-        text: 0,
-        len: 0,
-        list: 0,
-        count: 0,
-    }
+    take_both(bytes, 4)
 }
 
 // The length of the run without the zero bytes at its end.
 pub fn unpadded_len(run: &[u8]) -> usize
     ensures { result ≡ length (unpadded run.now) }
 {
-    let mut n = run.len();
-    while 0 < n {
-        if run[n - 1] != 0 {
-            return n;
+    for n in (0..run.len()).rev() {
+        if run[n] != 0 {
+            return n + 1;
         }
-        n -= 1;
     }
-    n
+    0
 }

@@ -9,7 +9,6 @@ use Rattle.format.specs.Catalogue.{little}
 use Rattle.byte_slices.specs.Over.{over}
 use Rattle.little_endian.proofs.Little.{little-length}
 use Rattle.byte_slices.proofs.Over.{over-length, over-over}
-use Rattle.format.specs.References.{Reference}
 use Rattle.format.specs.Binary.{sized, reference_bytes}
 
 -- ---- a reference written part by part

@@ -24,15 +24,12 @@ pub fn measure_list(text: &[u8], strict: bool) -> ListSize
     let mut count: u32 = 0;
     let mut bytes: usize = 0;
     let mut at: usize = 0;
-    loop {
-        let r = binary_references::next_reference(text, strict, at);
-        if !r.found {
-            return ListSize { count, bytes };
-        }
+    while let Some(r) = binary_references::next_reference(text, strict, at) {
         count += 1;
-        bytes = bytes + r.name.len + 9;
+        bytes += r.name.len + 9;
         at = r.next;
     }
+    ListSize { count, bytes }
 }
 
 // Writes a reference at `at` and returns the place after it: the length of the name with its closing zero, the name, that zero, and the LN.
@@ -58,11 +55,7 @@ pub fn put_list(text: &[u8], strict: bool, out: &mut [u8], start: usize)
 {
     let mut o = start;
     let mut at: usize = 0;
-    loop {
-        let r = binary_references::next_reference(text, strict, at);
-        if !r.found {
-            return;
-        }
+    while let Some(r) = binary_references::next_reference(text, strict, at) {
         let from = r.name.at;
         o = put_reference(out, o, &text[from..from + r.name.len], r.length);
         at = r.next;

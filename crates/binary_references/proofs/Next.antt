@@ -1,7 +1,7 @@
 -- The SQ list line by line: the first line's reference, and those of the lines after it.
 use Prim.Native.Nat.{ℕ, ◌+◌, ◌-◌, ◌≤◌, ◌<◌}
 use mathlib.Core.Path.{◌≡◌, refl, sym, ap, subst, ◌∙◌}
-use mathlib.Core.Bool.{Bool, true, false, false≢true, cond}
+use mathlib.Core.Bool.{Bool, true, false, false≢true}
 use mathlib.Core.List.{List, [], ◌∷◌, ◌++◌}
 use native.Mathlib.Omega.{arith}
 use lib.ListN.{length, take, drop, get_or, length-drop, drop_of_length-le}
@@ -36,6 +36,7 @@ use Rattle.record.specs.declared.Stretch.{Stretch}
 use Rattle.format.specs.References.{Reference, sq_list}
 use Rattle.binary_references.specs.Next.{may_be_sq, with_reference, line_references, sq_from, told_reference, told_list, start_of, next_by, next_in, next_from}
 use Rattle.binary_references.specs.declared.NextReference.{NextReference}
+use Rattle.std.specs.Prelude.{Option, None, Some}
 
 -- ---- all lines of an accepted text
 
@@ -65,14 +66,10 @@ unfolding line_references
 sq-none strict t at h = ap (λ s. line_references strict (lines_from at s)) (drop_of_length-le t h) ∙ ap (line_references strict) (lines_none at)
 
 -- and none is answered
-pub next-none : (strict : Bool) (t : List ℕ) (at : ℕ) → at ≤ length t → length t ≤ at → next_from strict t at ≡ record { found = false; name = record { at = 0; len = 0 }; length = 0; next = at }
+pub next-none : (strict : Bool) (t : List ℕ) (at : ℕ) → length t ≤ at → next_from strict t at ≡ None
 unfolding next_in
-next-none strict t at h k =
-    let e : length t ≡ at = omega arith in
-    ap (λ s. next_in strict (length t) (lines_from at s)) (drop_of_length-le t k) ∙ ap (next_in strict (length t)) (lines_none at) ∙ ap none e
-  where
-    none : ℕ → NextReference
-    none n = record { found = false; name = record { at = 0; len = 0 }; length = 0; next = n }
+next-none strict t at k =
+    ap (λ s. next_in strict (length t) (lines_from at s)) (drop_of_length-le t k) ∙ ap (next_in strict (length t)) (lines_none at)
 
 -- where the lines from an offset on start
 start-at : (t : List ℕ) (at : ℕ) → at ≤ length t → start_of (length t) (lines_from at (drop at t)) ≡ at
@@ -127,7 +124,7 @@ pub record IsSq (t : List ℕ) (q : Stretch) (n : ℕ) (l : Line) : Type 0 where
   pub inside : q.at + q.len ≤ length t
   pub small : n < 2147483648
   pub list : (rest : List Reference) → with_reference l rest ≡ record { name = take q.len (drop q.at t); size = n } ∷ rest
-  pub next : (k : ℕ) (rest : NextReference) → next_by l k rest ≡ record { found = true; name = q; length = n; next = k }
+  pub next : (k : ℕ) (rest : Option NextReference) → next_by l k rest ≡ Some (record { name = q; length = n; next = k })
 
 module _ (strict : Bool) (t : List ℕ) (p : Piece) (s : Stands t 0 p) where
   sq-record : (r : Record) → records.line strict p ≡ read r → (q : Stretch) (n k : ℕ) → record_head r ≡ head.ReferenceSequence q n k → IsSq t q n (read r)
@@ -151,7 +148,7 @@ module _ (strict : Bool) (t : List ℕ) (p : Piece) (s : Stands t 0 p) where
       number : head.ReferenceSequence (record { at = x.at; len = length x.bytes }) m (length fs) ≡ head.ReferenceSequence q n k → m ≡ n
       number h = cc
 
-      told : {p : Stretch} {m : ℕ} (k : ℕ) → p ≡ q → m ≡ n → ◌≡◌ {A = NextReference} (record { found = true; name = p; length = m; next = k }) (record { found = true; name = q; length = n; next = k })
+      told : {p : Stretch} {m : ℕ} (k : ℕ) → p ≡ q → m ≡ n → ◌≡◌ {A = Option NextReference} (Some (record { name = p; length = m; next = k })) (Some (record { name = q; length = n; next = k }))
       told k e f = rw (e, f) refl
 
       made : {a b : List ℕ} {c d : ℕ} → a ≡ b → c ≡ d → ◌≡◌ {A = Reference} (record { name = a; size = c }) (record { name = b; size = d })
@@ -171,7 +168,7 @@ module _ (strict : Bool) (t : List ℕ) (p : Piece) (s : Stands t 0 p) where
 -- any other line has no reference
 pub record NoSq (l : Line) : Type 0 where
   pub list : (rest : List Reference) → with_reference l rest ≡ rest
-  pub next : (k : ℕ) (rest : NextReference) → next_by l k rest ≡ rest
+  pub next : (k : ℕ) (rest : Option NextReference) → next_by l k rest ≡ rest
 
 other-head : (l : Line) → ((q : Stretch) (n k : ℕ) → head_of l ≡ head.ReferenceSequence q n k → ⊥) → NoSq l
 unfolding head_of record_head with_reference sq_list next_by
@@ -211,16 +208,16 @@ sq-never strict p h = go (records.line strict p) refl
 
 -- ---- by what the next reference is
 
+-- none is left
+pub told_none : (strict : Bool) (t : List ℕ) → told_list strict t None ≡ []
+unfolding told_list
+told_none strict t = refl
+
 module _ (strict : Bool) (t : List ℕ) (r : NextReference) where
   -- it is found: it comes before those after it
-  pub told-one : r.found ≡ true → told_list strict t r ≡ told_reference t r ∷ sq_from strict t r.next
+  pub told-one : told_list strict t (Some r) ≡ told_reference t r ∷ sq_from strict t r.next
   unfolding told_list
-  told-one e = ap (λ b. cond b (told_reference t r ∷ sq_from strict t r.next) []) e
-
-  -- none is left
-  pub told_none : r.found ≡ false → told_list strict t r ≡ []
-  unfolding told_list
-  told_none e = ap (λ b. cond b (told_reference t r ∷ sq_from strict t r.next) []) e
+  told-one = refl
 
   -- how long its name is
   pub told-length : r.name.at + r.name.len ≤ length t → length (told_reference t r).name ≡ r.name.len

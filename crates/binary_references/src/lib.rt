@@ -6,10 +6,9 @@ ghost use Rattle.binary_references.specs.Next.{may_be_sq, sq_from, told_list, Ne
 
 use record::{Head, Stretch};
 
-// The next reference, and the offset of the line after its own; `found` is false if no SQ is left.
+// A reference, and the offset of the line after its own.
 #[derive(Clone, Copy)]
 pub struct NextReference {
-    pub found: bool,
     pub name: Stretch,
     pub length: u32,
     pub next: usize,
@@ -25,9 +24,9 @@ fn may_be_sq(line: &[u8]) -> bool
     line[1] == b'S'
 }
 
-// The first SQ of the lines from the offset `start` on, where a line starts; `strict` is the rule for repeated tags that they are
+// The first SQ of the lines from the offset `start` on, where a line starts, if any is left; `strict` is the rule for repeated tags that they are
 // read by.
-pub fn next_reference(text: &[u8], strict: bool, start: usize) -> NextReference
+pub fn next_reference(text: &[u8], strict: bool, start: usize) -> Option<NextReference>
     requires text_len_bound { length text.now ≤ 16777216 }
     requires start_in_bounds { start ≤ length text.now }
     ensures list { sq_from strict text.now start ≡ told_list strict text.now result }
@@ -41,20 +40,14 @@ pub fn next_reference(text: &[u8], strict: bool, start: usize) -> NextReference
         if may_be_sq(&text[at..end]) {
             let head = record_parser::parse_record(&text[at..end], at, strict);
             if let Head::ReferenceSequence(name, n, _) = head {
-                return NextReference {
-                    found: true,
+                return Some(NextReference {
                     name,
                     length: n as u32,
                     next,
-                };
+                });
             }
         }
         at = next;
     }
-    NextReference {
-        found: false,
-        name: Stretch { at: 0, len: 0 },
-        length: 0,
-        next: at,
-    }
+    None
 }

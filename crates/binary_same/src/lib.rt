@@ -35,22 +35,17 @@ pub fn is_sq_list(bytes: &[u8], list: usize, count: u32, text: &[u8], strict: bo
     ensures { result ≡ same_references (listed (take_list count (drop list bytes.now))) (sq_from strict text.now 0) }
 {
     let mut at = list;
-    let mut left = count;
     let mut line: usize = 0;
-    loop {
-        let next = binary_references::next_reference(text, strict, line);
-        if left == 0 {
-            return !next.found;
-        }
-        let reference = binary_parts::take_reference(bytes, at);
-        if !next.found {
+    for _ in 0..count {
+        let reference = binary_parts::take_reference(bytes, at).unwrap(); // the list is whole
+        let Some(next) = binary_references::next_reference(text, strict, line) else {
             return false;
-        }
+        };
         if !is_same(bytes, reference, text, next) {
             return false;
         }
         at = reference.next;
-        left -= 1;
         line = next.next;
     }
+    binary_references::next_reference(text, strict, line).is_none()
 }

@@ -1,12 +1,11 @@
--- The laws of `same`, which is equality, and of `starts`.
-use Prim.Native.Nat.{ℕ, ◌+◌, ◌≤◌, ◌<◌}
-use mathlib.Core.Path.{◌≡◌, refl}
+-- The laws of `same`, which is equality, and of `starts`; and that std's comparisons of slices are these.
+use Prim.Native.Nat.{ℕ, ◌<◌}
+use mathlib.Core.Path.{◌≡◌, refl, ap}
 use mathlib.Core.Bool.{Bool, true, false, ◌&&◌}
 use mathlib.Core.List.{List, [], ◌∷◌}
 use native.Mathlib.Omega.{arith}
-use native.Mathlib.Numerals.{add-one}
-use lib.ListN.{length, drop, get_or, drop_of_length-le}
-use lib.Seq.{drop-cons}
+use lib.ListN.{length, take}
+use lib.Pointwise.{pointwise}
 use lib.Dec.{eqb}
 use borrow.Author.Tests.{eqb-true, eq-eqb}
 use Rattle.format.specs.Bytes.{same, starts}
@@ -45,23 +44,17 @@ starts-short (a ∷ p) (b ∷ s) h = go (eqb a b) (starts-short p s (omega arith
     go true k = k
     go false k = refl
 
--- ---- from an index on
+-- ---- what std answers
 
-module _ (s t : List ℕ) (i : ℕ) where
-  pub same_step : i < length s → i < length t
-      → same (drop i s) (drop i t) ≡ (eqb (get_or s i 0) (get_or t i 0) && same (drop (i + 1) s) (drop (i + 1) t))
-  unfolding same
-  same_step h k = rw (drop-cons s i 0 h, drop-cons t i 0 k, add-one i) refl
+pub pointwise-same : (s t : List ℕ) → pointwise eqb s t ≡ same s t
+unfolding same
+pointwise-same [] [] = refl
+pointwise-same [] (b ∷ t) = refl
+pointwise-same (a ∷ s) [] = refl
+pointwise-same (a ∷ s) (b ∷ t) = ap (λ r. eqb a b && r) (pointwise-same s t)
 
-  pub same_end : length s ≤ i → length t ≤ i → same (drop i s) (drop i t) ≡ true
-  unfolding same
-  same_end h k = rw (drop_of_length-le s h, drop_of_length-le t k) refl
-
-  pub starts-step : i < length s → i < length t
-      → starts (drop i s) (drop i t) ≡ (eqb (get_or s i 0) (get_or t i 0) && starts (drop (i + 1) s) (drop (i + 1) t))
-  unfolding starts
-  starts-step h k = rw (drop-cons s i 0 h, drop-cons t i 0 k, add-one i) refl
-
-  pub starts-end : length s ≤ i → starts (drop i s) (drop i t) ≡ true
-  unfolding starts
-  starts-end h = rw (drop_of_length-le s h) refl
+pub pointwise-starts : (p s : List ℕ) → pointwise eqb p (take (length p) s) ≡ starts p s
+unfolding starts
+pointwise-starts [] s = refl
+pointwise-starts (a ∷ p) [] = refl
+pointwise-starts (a ∷ p) (b ∷ s) = ap (λ r. eqb a b && r) (pointwise-starts p s)

@@ -1,15 +1,14 @@
 -- The laws of `upto`, `cut` and `lines_from`: a text is its first piece, and then the pieces of what follows.
-use Prim.Native.Nat.{ℕ, zero, suc, ◌+◌, ◌-◌, ◌≤◌, ◌<◌}
-use mathlib.Core.Path.{◌≡◌, refl, sym, ap, ◌∙◌}
+use Prim.Native.Nat.{ℕ, suc, ◌+◌, ◌≤◌, ◌<◌}
+use mathlib.Core.Path.{◌≡◌, refl, sym, ap}
 use mathlib.Core.Bool.{Bool, true, false, cond}
-use mathlib.Core.List.{List, [], ◌∷◌, ◌++◌, map}
+use mathlib.Core.List.{List, [], ◌∷◌}
 use native.Mathlib.Omega.{arith}
-use native.Mathlib.Numerals.{add-one}
-use lib.ListN.{length, take, drop, get_or}
+use lib.ListN.{length, take, drop}
 use lib.Seq.{length-take-le}
 use lib.Dec.{eqb}
 use borrow.Author.Tests.{eqb-true}
-use Rattle.format.specs.Lines.{Piece, broken, laid, onto, chomp, chomped, lines, lines_from}
+use Rattle.format.specs.Lines.{broken, onto, chomp, lines_from}
 use Rattle.byte_slices.specs.Upto.{upto}
 
 pub upto_le : (d : ℕ) (s : List ℕ) → upto d s ≤ length s

@@ -6,7 +6,9 @@ use native.Mathlib.Omega.{arith}
 use native.Mathlib.Numerals.{add-one, add-two, add-three}
 use native.Mathlib.Nat.{add_assoc, add-zero}
 use lib.ListN.{length, take, drop, set, length-append, length-drop, take-append-drop}
-use lib.Seq.{sets-eq, length-take-le, take_at, drop_at, take-append_seam, drop-append-add, drop-drop}
+use lib.Seq.{sets-eq, take-length, length-take-le, take_at, drop_at, take-append_seam, drop-append-add, drop-drop}
+use borrow.Rule.Slice.PartMut.{put_mid}
+use Rattle.std.proofs.lemmas.Slice.{put_mid-paste}
 use Rattle.byte_slices.specs.Over.{over}
 
 pub over-length : (out : List ℕ) (at : ℕ) (xs : List ℕ) → at + length xs ≤ length out → length (over out at xs) ≡ length out
@@ -49,6 +51,11 @@ over-part out at xs h =
 pub over-again : (out : List ℕ) (at : ℕ) (xs ys : List ℕ) → at ≤ length out → length xs ≡ length ys → over (over out at xs) at ys ≡ over out at ys
 unfolding over
 over-again out at xs ys h e = rw (← e, over-front out at xs h, over-drop out at xs h) refl
+
+-- what std writes into the part from `at` on
+pub put_over : (out xs : List ℕ) (at k : ℕ) → k ≡ length xs → put_mid at k out xs ≡ over out at xs
+unfolding over
+put_over out xs at k e = put_mid-paste at k out xs xs (length xs) refl (sym e) refl ∙ rw (take-length xs) refl
 
 -- four stores in a row
 pub over-four : (out : List ℕ) (at a b c d : ℕ) → at + 4 ≤ length out

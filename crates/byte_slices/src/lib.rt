@@ -13,12 +13,10 @@ fn is_free_block(s: &[u8], at: usize, d: u8) -> bool
     ensures { result ≡ leb 16 (upto d (drop at s.now)) }
 {
     let mut free = true;
-    let mut i: usize = 0;
-    while i < 16 {
+    for i in 0..16 {
         if s[at + i] == d {
             free = false;
         }
-        i += 1;
     }
     free
 }
@@ -27,72 +25,46 @@ fn is_free_block(s: &[u8], at: usize, d: u8) -> bool
 fn pass_blocks(s: &[u8], d: u8) -> usize
     ensures { result ≡ upto d s.now / 16 * 16 }
 {
-    let mut at: usize = 0;
-    while 16 <= s.len() - at {
-        if !is_free_block(s, at, d) {
-            return at;
+    let blocks = s.len() / 16;
+    for block in 0..blocks {
+        if !is_free_block(s, block * 16, d) {
+            return block * 16;
         }
-        at += 16;
     }
-    at
+    blocks * 16
 }
 
 // How many bytes of `s` come before the first `d`: all if there is none. Goes block by block, and then byte by byte.
 pub fn upto(s: &[u8], d: u8) -> usize
     ensures { result ≡ upto d s.now }
 {
-    let mut i = pass_blocks(s, d);
-    while i < s.len() {
+    for i in pass_blocks(s, d)..s.len() {
         if s[i] == d {
             return i;
         }
-        i += 1;
     }
-    i
+    s.len()
 }
 
 // Whether `a` and `b` have the same bytes.
 pub fn same(a: &[u8], b: &[u8]) -> bool
     ensures { result ≡ same a.now b.now }
 {
-    if a.len() != b.len() {
-        return false;
-    }
-    let mut i: usize = 0;
-    while i < a.len() {
-        if a[i] != b[i] {
-            return false;
-        }
-        i += 1;
-    }
-    true
+    a == b
 }
 
 // Whether `s` starts with `p`.
 pub fn starts(p: &[u8], s: &[u8]) -> bool
     ensures { result ≡ starts p.now s.now }
 {
-    if s.len() < p.len() {
-        return false;
-    }
-    let mut i: usize = 0;
-    while i < p.len() {
-        if p[i] != s[i] {
-            return false;
-        }
-        i += 1;
-    }
-    true
+    s.starts_with(p)
 }
 
 // Whether the first byte of `s` is `b`.
 pub fn leads(s: &[u8], b: u8) -> bool
     ensures { result ≡ leads b s.now }
 {
-    if s.len() == 0 {
-        return false;
-    }
-    s[0] == b
+    s.first() == Some(&b)
 }
 
 // A line at the front of a text: its length without the ending, and where the next line starts.
@@ -130,9 +102,5 @@ pub fn put_bytes(out: &mut [u8], at: usize, from: &[u8])
     requires { at + length from.now ≤ length out.old }
     ensures { out.new ≡ over out.old at from.now }
 {
-    let mut i: usize = 0;
-    while i < from.len() {
-        out[at + i] = from[i];
-        i += 1;
-    }
+    out[at..at + from.len()].copy_from_slice(from);
 }

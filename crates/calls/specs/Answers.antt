@@ -1,42 +1,35 @@
 -- The answers of the calls that look up a record, in the code's numbers.
-use Rattle.std.specs.Prelude.{ℕ, ◌+◌, length}
+use Rattle.std.specs.Prelude.{ℕ, ◌+◌, length, Option, None, Some, Result, Ok, Err}
 use Rattle.format.specs.Lines.{Piece}
 use Rattle.format.specs.Calls.{Answer, refused, yes}
-use Rattle.read.specs.declared.CountAnswer as parser
-use Rattle.read.specs.declared.CountAnswer.TheVariants.{Refused, Count}
-use Rattle.calls.specs.declared.KeyAnswer.{KeyAnswer}
-use Rattle.calls.specs.declared.KeyAnswer.TheVariants as key
-use Rattle.calls.specs.declared.LengthAnswer.{LengthAnswer}
-use Rattle.calls.specs.declared.LengthAnswer.TheVariants as ln
-use Rattle.calls.specs.declared.LineAnswer.{LineAnswer}
-use Rattle.calls.specs.declared.LineAnswer.TheVariants as line
-use Rattle.calls.specs.declared.ValuePlace.{ValuePlace}
-use Rattle.calls.specs.declared.ValuePlace.TheVariants as place
+use Rattle.format.specs.declared.LineNo.{LineNo}
+use Rattle.format.specs.declared.Refusal.{Refusal}
+use Rattle.catalogue_entries.specs.declared.Place.{Place}
 
--- a refusal and its line, or how many
-unfoldable pub count_of : Answer ℕ → parser.CountAnswer
-count_of (refused n l) = Refused n (record { 0 = l })
-count_of (yes n) = Count n
+-- how many, or a refusal and its line
+unfoldable pub count_of : Answer ℕ → Result ℕ Refusal
+count_of (refused n l) = Err (record { number = n; line = record { 0 = l } })
+count_of (yes n) = Ok n
 
--- a refusal and its line, or where the key is and how long it is
-unfoldable pub key_answer_of : Answer Piece → KeyAnswer
-key_answer_of (refused n l) = key.Refused n (record { 0 = l })
-key_answer_of (yes p) = key.At p.at (length p.bytes)
+-- where the key is and how long it is, or a refusal and its line
+unfoldable pub key_answer_of : Answer Piece → Result Place Refusal
+key_answer_of (refused n l) = Err (record { number = n; line = record { 0 = l } })
+key_answer_of (yes p) = Ok (record { at = p.at; len = length p.bytes })
 
--- a refusal and its line, or the LN
-unfoldable pub length_answer_of : Answer ℕ → LengthAnswer
-length_answer_of (refused n l) = ln.Refused n (record { 0 = l })
-length_answer_of (yes n) = ln.Is n
+-- the LN, or a refusal and its line
+unfoldable pub length_answer_of : Answer ℕ → Result ℕ Refusal
+length_answer_of (refused n l) = Err (record { number = n; line = record { 0 = l } })
+length_answer_of (yes n) = Ok n
 
--- a refusal and its line, or the line of a record
-unfoldable pub line_answer_of : Answer ℕ → LineAnswer
-line_answer_of (refused n l) = line.Refused n (record { 0 = l })
-line_answer_of (yes l) = line.Is (record { 0 = l })
+-- the line of a record, or a refusal and its line
+unfoldable pub line_answer_of : Answer ℕ → Result LineNo Refusal
+line_answer_of (refused n l) = Err (record { number = n; line = record { 0 = l } })
+line_answer_of (yes l) = Ok (record { 0 = l })
 
--- where the value of a field is and how long it is, or that the stand-in is used
-unfoldable pub value_place_of : Answer Piece → ValuePlace
-value_place_of (refused n l) = place.StandIn
-value_place_of (yes p) = place.At p.at (length p.bytes)
+-- where the value of a field is and how long it is; none where the stand-in is used
+unfoldable pub value_place_of : Answer Piece → Option Place
+value_place_of (refused n l) = None
+value_place_of (yes p) = Some (record { at = p.at; len = length p.bytes })
 
 -- where the answer of a lookup is: in the text at the value's offset, or where the stand-in is
 unfoldable pub part_standing : Answer Piece → ℕ × ℕ → ℕ × ℕ → ℕ × ℕ

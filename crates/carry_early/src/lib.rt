@@ -85,13 +85,11 @@ pub fn put_early(text: &[u8], count: u32, table: &mut [u32])
     ensures { table.new ≡ over table.old 0 (rows_from 0 (early_of text.now).refusals) }
 {
     let mut at: usize = 0;
-    let mut line: u32 = 0;
     let mut strict = false;
-    while line < count {
+    for line in 0..count {
         let early = judge_early(text, at, strict);
         put_row(table, line as usize, line, early.refusal);
         strict = early.strict;
         at = early.next;
-        line += 1;
     }
 }

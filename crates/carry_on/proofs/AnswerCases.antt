@@ -1,6 +1,6 @@
 -- The call's answer by what writing the tidy text says, and the answer in the code's numbers.
 use Prim.Native.Nat.{ℕ, ◌/◌, ◌≤◌, ◌<◌}
-use mathlib.Core.Path.{◌≡◌, refl, sym, ap, ap₂, ◌∙◌}
+use mathlib.Core.Path.{◌≡◌, refl, sym, ap, ◌∙◌}
 use mathlib.Core.List.{List}
 use lib.ListN.{length, length-replicate}
 use borrow.Author.Tests.{lt-ltb, le-ltb}
@@ -8,13 +8,14 @@ use Rattle.format.specs.Reading.{longest}
 use Rattle.format.specs.Tidy.{tidy}
 use Rattle.format.specs.Calls.{Answer, refused, yes, then, fitting, writing}
 use Rattle.format.specs.Work.{all_zeros}
-use Rattle.format.specs.declared.LineNo.{LineNo}
 use Rattle.byte_slices.specs.Over.{over}
 use Rattle.read.specs.Answers.{output_of}
 use Rattle.read.proofs.AnswerCases.{written-answer}
 use Rattle.format.specs.Carrying.{kept_of, carried_lines, skips, rows, unwritable_line, carrying}
 use Rattle.carry_on.specs.Answers.{carried_of, text_of, table_of}
-use Rattle.carry_on.specs.declared.Carried.TheVariants.{Refused, Written}
+use Rattle.std.specs.Prelude.{Result, Ok, Err}
+use Rattle.format.specs.declared.Refusal.{Refusal}
+use Rattle.carry_on.specs.declared.Written.{Written}
 
 -- ---- 1, then what writing the tidy text says, then 20
 
@@ -41,15 +42,15 @@ module _ (t : List ℕ) (room table : ℕ) where
 -- ---- the answers in the code's numbers
 
 module _ (a : Answer (List ℕ × List ℕ)) (out table : List ℕ) where
-  pub refused_all : (n : ℕ) (l : LineNo) → a ≡ refused n l.0 → (Refused n l ≡ carried_of a) × ((out ≡ output_of (text_of a) out) × (table ≡ output_of (table_of a) table))
+  pub refused_all : (r : Refusal) → a ≡ refused r.number r.line.0 → (Err r ≡ carried_of a) × ((out ≡ output_of (text_of a) out) × (table ≡ output_of (table_of a) table))
   unfolding carried_of text_of table_of output_of
-  refused_all n l e = (sym (ap carried_of e), (sym (ap (λ x. output_of (text_of x) out) e), sym (ap (λ x. output_of (table_of x) table) e)))
+  refused_all r e = (sym (ap carried_of e), (sym (ap (λ x. output_of (text_of x) out) e), sym (ap (λ x. output_of (table_of x) table) e)))
 
   pub written_all : (xs ys out' table' : List ℕ) (n m : ℕ) → a ≡ yes (xs, ys) → n ≡ length xs → m ≡ length ys / 2 → out' ≡ over out 0 xs → table' ≡ over table 0 ys
-      → (Written n m ≡ carried_of a) × ((out' ≡ output_of (text_of a) out) × (table' ≡ output_of (table_of a) table))
+      → (◌≡◌ {A = Result Written Refusal} (Ok (record { size = n; skipped = m })) (carried_of a)) × ((out' ≡ output_of (text_of a) out) × (table' ≡ output_of (table_of a) table))
   unfolding carried_of text_of table_of
   written_all xs ys out' table' n m e p q v w = (
-    ap₂ Written p q ∙ sym (ap carried_of e),
+    rw (p, q) (sym (ap carried_of e)),
     ((written-answer (text_of a) out xs out' (length xs) (ap text_of e) refl v).1, (written-answer (table_of a) table ys table' (length ys) (ap table_of e) refl w).1),
   )
 

@@ -16,17 +16,18 @@ ghost use Rattle.carry_on.specs.Answers.{carried_answer, text_left, table_left};
 
 use carry_early::Begin;
 use carry_passes::KeptSizes;
-use format::LineNo;
-use read::CountAnswer;
-use read_judge::Judged;
+use format::{LineNo, Refusal};
 use tidy_sizes::PerKind;
 
-// A refusal and its line, or how many bytes were written and how many lines were skipped.
-#[derive(Clone, Copy)]
-pub enum Carried {
-    Refused(u8, LineNo),
-    Written(usize, usize),
+// How many bytes were written, and how many lines were skipped.
+#[derive(Clone, Copy, Debug, PartialEq, Eq)]
+pub struct Written {
+    pub size: usize,
+    pub skipped: usize,
 }
+
+// What was written, or why nothing was.
+pub type Carried = Result<Written, Refusal>;
 
 // Once every name is known to be writable: answers 1 for a tidy text that is too long, then 20 for a short output, then 20 for a short table, or
 // writes both.
@@ -52,14 +53,18 @@ fn write_kept(
     let n = sizes.total();
     let unfit = tidy_sizes::fit(n, 0, 0, out.len());
     if unfit != 0 {
-        return Carried::Refused(unfit, LineNo(0));
+        return Err(Refusal::of_text(unfit));
     }
     let lines = b.line as usize + skipped;
     if table.len() < lines * 2 {
-        return Carried::Refused(20, LineNo(0));
+        return Err(Refusal::of_text(20));
     }
     carry_passes::writing::put_kept_and_table(text, b, area, sizes.starts(0), out, table);
-    Carried::Written(n, lines)
+    let written = Written {
+        size: n,
+        skipped: lines,
+    };
+    Ok(written)
 }
 
 // Once the lines from the first kept line on have been measured: answers 24, or what `write_kept` answers.
@@ -67,7 +72,7 @@ fn write_measured(
     text: &[u8],
     b: Begin,
     area: &mut [u32],
-    measured: KeptSizes,
+    measured: Result<KeptSizes, LineNo>,
     out: &mut [u8],
     table: &mut [u32],
 ) -> Carried
@@ -80,8 +85,8 @@ fn write_measured(
     ensures listed { table.new ≡ table_left text.now out.old table.old }
 {
     match measured {
-        KeptSizes::Unwritable(line) => Carried::Refused(24, line),
-        KeptSizes::Is(sizes, skipped) => write_kept(text, b, area, sizes, skipped, out, table),
+        Err(line) => Err(Refusal { number: 24, line }),
+        Ok(kept) => write_kept(text, b, area, kept.sizes, kept.skipped, out, table),
     }
 }
 
@@ -98,29 +103,21 @@ fn carry_indexed(text: &[u8], area: &mut [u32], out: &mut [u8], table: &mut [u32
     write_measured(text, b, area, measured, out, table)
 }
 
-// A short text, in blocks of 384 lines with a key. Its area is small, so little has to be cleared.
-fn carry_short(text: &[u8], out: &mut [u8], table: &mut [u32]) -> Carried
-    requires { length text.now ≤ 16777216 }
+// A text with an area of this function's own, of so many slots: in blocks of three lines with a key for every four of them.
+fn carry_own<const SLOTS: usize>(text: &[u8], out: &mut [u8], table: &mut [u32]) -> Carried
+    requires text_len_bound { length text.now ≤ 16777216 }
+    requires in_bounds { 4 ≤ SLOTS }
+    requires slots_bound { SLOTS ≤ 196608 }
     ensures answer { result ≡ carried_answer text.now out.old table.old }
     ensures wrote { out.new ≡ text_left text.now out.old table.old }
     ensures listed { table.new ≡ table_left text.now out.old table.old }
 {
-    let mut area = [0u32; read_judge::SHORT_SLOTS];
+    let mut area = [0u32; SLOTS];
     carry_indexed(text, &mut area, out, table)
 }
 
-// A text of some thousands of lines, in blocks of 4,608.
-fn carry_middle(text: &[u8], out: &mut [u8], table: &mut [u32]) -> Carried
-    requires { length text.now ≤ 16777216 }
-    ensures answer { result ≡ carried_answer text.now out.old table.old }
-    ensures wrote { out.new ≡ text_left text.now out.old table.old }
-    ensures listed { table.new ≡ table_left text.now out.old table.old }
-{
-    let mut area = [0u32; read_judge::OWN_SLOTS];
-    carry_indexed(text, &mut area, out, table)
-}
-
-// A text with an area of this function's own, of 24 KiB at most. This is slow if the text has many more lines than a block takes.
+// A short text, in blocks of 384 lines, or one of some thousands of lines, in blocks of 4,608: a small area takes little clearing. This is slow if
+// the text has many more lines than a block takes.
 fn carry_small(text: &[u8], out: &mut [u8], table: &mut [u32]) -> Carried
     requires { length text.now ≤ 16777216 }
     ensures answer { result ≡ carried_answer text.now out.old table.old }
@@ -128,34 +125,24 @@ fn carry_small(text: &[u8], out: &mut [u8], table: &mut [u32]) -> Carried
     ensures listed { table.new ≡ table_left text.now out.old table.old }
 {
     if text.len() <= read_judge::SHORT {
-        return carry_short(text, out, table);
+        return carry_own::<{ read_judge::SHORT_SLOTS }>(text, out, table);
     }
-    carry_middle(text, out, table)
+    carry_own::<{ read_judge::OWN_SLOTS }>(text, out, table)
 }
 
-// Any text, in blocks of 147,456 lines; it is measured `more` times again before it is written. Nobody asks for more than once. The function calls
-// itself so that it is compiled as a function of its own: its 768 KiB are on the stack only while it runs, and not in the frames of its callers. The
-// call of itself is not the last step, because the compiler would turn such a call into a loop.
-fn carry_long(text: &[u8], b: Begin, out: &mut [u8], table: &mut [u32], more: usize) -> Carried
-    requires text_len_bound { length text.now ≤ 16777216 }
-    requires first { First text.now b }
+// Any text, in blocks of 147,456 lines with a key. It is compiled as a function of its own, so that its 768 KiB are on the stack only while it runs,
+// and not in the frames of its callers, which serve short texts too.
+#[inline(never)]
+fn carry_long(text: &[u8], out: &mut [u8], table: &mut [u32]) -> Carried
+    requires { length text.now ≤ 16777216 }
     ensures answer { result ≡ carried_answer text.now out.old table.old }
     ensures wrote { out.new ≡ text_left text.now out.old table.old }
     ensures listed { table.new ≡ table_left text.now out.old table.old }
 {
-    let mut area = [0u32; read_judge::LONG_SLOTS];
-    let measured = carry_passes::measure(text, b, &mut area);
-    if 0 < more {
-        return match carry_long(text, b, out, table, more - 1) {
-            Carried::Refused(n, line) => Carried::Refused(n, line),
-            Carried::Written(size, lines) => Carried::Written(size, lines),
-        };
-    }
-    write_measured(text, b, &mut area, measured, out, table)
+    carry_own::<{ read_judge::LONG_SLOTS }>(text, out, table)
 }
 
-// Picks the area by the length of a text that is not too long. No text is long enough to be measured twice, but the compiler can't know that; if it
-// could, it would inline `carry_long` into its caller.
+// Picks the area by the length of a text that is not too long.
 fn carry_lines(text: &[u8], out: &mut [u8], table: &mut [u32]) -> Carried
     requires { length text.now ≤ 16777216 }
     ensures answer { result ≡ carried_answer text.now out.old table.old }
@@ -165,8 +152,7 @@ fn carry_lines(text: &[u8], out: &mut [u8], table: &mut [u32]) -> Carried
     if text.len() <= read_judge::MIDDLE {
         return carry_small(text, out, table);
     }
-    let b = carry_early::find_first(text);
-    carry_long(text, b, out, table, b.line as usize / (format::LONGEST + 1))
+    carry_long(text, out, table)
 }
 
 // A text that reading refuses, of any length.
@@ -176,7 +162,7 @@ fn carry_refused(text: &[u8], out: &mut [u8], table: &mut [u32]) -> Carried
     ensures listed { table.new ≡ table_left text.now out.old table.old }
 {
     if format::LONGEST < text.len() {
-        return Carried::Refused(1, LineNo(0));
+        return Err(Refusal::of_text(1));
     }
     carry_lines(text, out, table)
 }
@@ -189,10 +175,8 @@ fn carry_accepted(text: &[u8], once: bool, out: &mut [u8], table: &mut [u32]) ->
     ensures wrote { out.new ≡ text_left text.now out.old table.old }
     ensures listed { table.new ≡ table_left text.now out.old table.old }
 {
-    match tidy::write_accepted(text, once, out) {
-        CountAnswer::Refused(n, line) => Carried::Refused(n, line),
-        CountAnswer::Count(n) => Carried::Written(n, 0),
-    }
+    let size = tidy::write_accepted(text, once, out)?;
+    Ok(Written { size, skipped: 0 })
 }
 
 // Writes the tidy text of the lines of `text` that are not refused to the front of `out`, and for each line that is, its number and why, to
@@ -204,8 +188,8 @@ pub fn carry_on(text: &[u8], out: &mut [u8], table: &mut [u32]) -> Carried
     ensures listed { table.new ≡ table_left text.now out.old table.old }
 {
     match read_judge::judge(text) {
-        Judged::Refused(_, _) => carry_refused(text, out, table),
-        Judged::Accepted(_, once) => carry_accepted(text, once, out, table),
+        Err(_) => carry_refused(text, out, table),
+        Ok(accepted) => carry_accepted(text, accepted.once, out, table),
     }
 }
 
@@ -221,7 +205,7 @@ fn carry_lent(text: &[u8], out: &mut [u8], table: &mut [u32], area: &mut [u32]) 
     if text.len() <= read_judge::MIDDLE {
         return carry_small(text, out, table);
     }
-    let n = read_judge::least(area.len(), text.len() / 8);
+    let n = area.len().min(text.len() / 8);
     if n <= read_judge::OWN_SLOTS {
         return carry_small(text, out, table);
     }
@@ -238,7 +222,7 @@ fn carry_refused_with(text: &[u8], out: &mut [u8], table: &mut [u32], work: &mut
 {
     if format::LONGEST < text.len() {
         key_index::clear(work);
-        return Carried::Refused(1, LineNo(0));
+        return Err(Refusal::of_text(1));
     }
     let carried = carry_lent(text, out, table, work);
     key_index::clear(work);
@@ -253,7 +237,7 @@ pub fn carry_on_with(text: &[u8], out: &mut [u8], table: &mut [u32], work: &mut 
     ensures zeros { work.new ≡ all_zeros work.old }
 {
     match read_judge::judge_with(text, work) {
-        Judged::Refused(_, _) => carry_refused_with(text, out, table, work),
-        Judged::Accepted(_, once) => carry_accepted(text, once, out, table),
+        Err(_) => carry_refused_with(text, out, table, work),
+        Ok(accepted) => carry_accepted(text, accepted.once, out, table),
     }
 }

@@ -11,19 +11,21 @@ use Rattle.lists.proofs.Bools.{never}
 use Rattle.tidy_sizes.specs.declared.PerKind.{PerKind}
 use Rattle.carry_passes.specs.Measured.{kept_measured, measured_from, kept_answer, KeptTold}
 use Rattle.carry_passes.specs.declared.KeptSizes.{KeptSizes}
-use Rattle.carry_passes.specs.declared.KeptSizes.TheVariants as measured
+use Rattle.std.specs.Prelude.{Result, Ok, Err}
 
-pub measured-bad : (o : Option ℕ) (s : PerKind) (n : ℕ) (l : LineNo) → kept_measured o s n ≡ measured.Unwritable l → o ≡ some l.0
+pub measured-bad : (o : Option ℕ) (s : PerKind) (n : ℕ) (l : LineNo) → kept_measured o s n ≡ Err l → o ≡ some l.0
 unfolding kept_measured
 measured-bad none s n l e = absurd (never cc)
 measured-bad (some k) s n l e =
     let y : ◌≡◌ {A = LineNo} (record { 0 = k }) l = cc in
     rw (← y) refl
 
-pub measured-is : (o : Option ℕ) (s : PerKind) (n : ℕ) (s' : PerKind) (n' : ℕ) → kept_measured o s n ≡ measured.Is s' n' → (o ≡ none) × ((s ≡ s') × (n ≡ n'))
+pub measured-is : (o : Option ℕ) (s : PerKind) (n : ℕ) (k : KeptSizes) → kept_measured o s n ≡ Ok k → (o ≡ none) × ((s ≡ k.sizes) × (n ≡ k.skipped))
 unfolding kept_measured
-measured-is none s n s' n' e = (refl, (cc, cc))
-measured-is (some k) s n s' n' e = absurd (never cc)
+measured-is none s n k e =
+    let y : ◌≡◌ {A = KeptSizes} (record { sizes = s; skipped = n }) k = cc in
+    (refl, (ap (λ m. m.sizes) y, ap (λ m. m.skipped) y))
+measured-is (some l) s n k e = absurd (never cc)
 
 told : {A : Type 0} → Answer A → ℕ × ℕ
 told (refused n l) = (n, l)
@@ -35,5 +37,5 @@ unfolding kept_answer kept_measured writing told
 kept-refused none s m room n l text e = absurd (never (cc))
 kept-refused (some k) s m room n l text e = ap (λ p. refused p.0 p.1) (ap told e)
 
-pub kept-told : (t : List ℕ) (b : Begin) (r : KeptSizes) → r ≡ measured_from t b → KeptTold t b r
+pub kept-told : (t : List ℕ) (b : Begin) (r : Result KeptSizes LineNo) → r ≡ measured_from t b → KeptTold t b r
 kept-told t b r e room n l text h = kept-refused (unwritable_from t b) _ _ room n l text (ap kept_answer (sym e) ∙ h)

@@ -14,7 +14,7 @@ use Rattle.tidy_line.specs.Line.{line_text, line_writable}
 use Rattle.tidy_sizes.specs.Numbers.{get}
 use Rattle.tidy_sizes.specs.declared.PerKind.{PerKind}
 use Rattle.tidy_text.specs.Sizes.{grown_by}
-use Rattle.tidy_text.specs.declared.Grown.TheVariants as grown
+use Rattle.std.specs.Prelude.{Some, None}
 use Rattle.tidy_text.proofs.Total.{size}
 use Rattle.tidy_text.proofs.Sizes.{size-turn, own-size, size-le}
 use Rattle.tidy_text.proofs.Names.{cond-is, grew-bad, grew-is}
@@ -32,11 +32,11 @@ module _ (n : ℕ) (j : Kind) (l : Line) where
   unfolding grown_at
   grown-kept s z = rw z refl
 
-  pub grown-skipped : (s : PerKind) → (n ≡ 0 → ⊥) → grown_at n j l s ≡ grown.Is s
+  pub grown-skipped : (s : PerKind) → (n ≡ 0 → ⊥) → grown_at n j l s ≡ Some s
   unfolding grown_at
   grown-skipped s h = go n h
     where
-      go : (n : ℕ) → (n ≡ 0 → ⊥) → grown_at n j l s ≡ grown.Is s
+      go : (n : ℕ) → (n ≡ 0 → ⊥) → grown_at n j l s ≡ Some s
       go zero h = absurd (h refl)
       go (suc n) h = refl
 
@@ -61,20 +61,20 @@ module _ (strict : Bool) (t : List ℕ) (from : ℕ) (c : Cursor) (end : ℕ) wh
   rest = at.rest strict t from c end
 
   -- its name can't be written
-  pub names-bad : (n : ℕ) → Turn strict t from c end n → (s : PerKind) → grown_at n kind_at line_at s ≡ grown.Unwritable → (k : ℕ) → unwritable_line k left ≡ some k
+  pub names-bad : (n : ℕ) → Turn strict t from c end n → (s : PerKind) → grown_at n kind_at line_at s ≡ None → (k : ℕ) → unwritable_line k left ≡ some k
   unfolding grown_at
   names-bad zero u s e k =
       ap (unwritable_line k) (left-kept strict t from c end 0 u refl) ∙ line-names k line_at rest ∙ cond-is (line_writable line_at) false _ _ (grew-bad kind_at line_at s e)
   names-bad (suc n) u s e k = absurd (never cc)
 
   -- or it can
-  pub names_more : (n : ℕ) → Turn strict t from c end n → (s s' : PerKind) → grown_at n kind_at line_at s ≡ grown.Is s' → (k : ℕ) → unwritable_line k left ≡ unwritable_line (k + 1) rest
+  pub names_more : (n : ℕ) → Turn strict t from c end n → (s s' : PerKind) → grown_at n kind_at line_at s ≡ Some s' → (k : ℕ) → unwritable_line k left ≡ unwritable_line (k + 1) rest
   unfolding grown_at unwritable_line
   names_more zero u s s' e k =
       ap (unwritable_line k) (left-kept strict t from c end 0 u refl) ∙ line-names k line_at rest ∙ cond-is (line_writable line_at) true _ _ (grew-is kind_at line_at s s' e).0
   names_more (suc n) u s s' e k = ap (unwritable_line k) (left-skipped strict t from c end (suc n) u (omega arith))
 
-  pub sizes-more : (n : ℕ) → Turn strict t from c end n → (s s' : PerKind) → grown_at n kind_at line_at s ≡ grown.Is s'
+  pub sizes-more : (n : ℕ) → Turn strict t from c end n → (s s' : PerKind) → grown_at n kind_at line_at s ≡ Some s'
       → (k : Kind) → get k s' + size k (kept_of rest) ≡ get k s + size k (kept_of left)
   unfolding grown_at
   sizes-more zero u s s' e k =

@@ -17,31 +17,35 @@ use carry_early::Begin;
 use carry_lines::Cursor;
 use format::LineNo;
 use tidy_sizes::PerKind;
-use tidy_text::Grown;
 
-// How many bytes of the tidy text the kept records of each kind take, and how many lines are skipped from the first kept line on; or the line of the
-// first kept SQ whose name can't be written.
+// How many bytes of the tidy text the kept records of each kind take, and how many lines are skipped from the first kept line on.
 #[derive(Clone, Copy)]
-pub enum KeptSizes {
-    Unwritable(LineNo),
-    Is(PerKind, usize),
+pub struct KeptSizes {
+    pub sizes: PerKind,
+    pub skipped: usize,
 }
 
-// The sizes with one more line; `n` is 0 if the line is kept.
-fn with_step(sizes: PerKind, src: &[u8], at: usize, strict: bool, n: u8) -> Grown
+// The sizes with one more line, if its name can be written; `n` is 0 if the line is kept.
+fn with_step(sizes: PerKind, src: &[u8], at: usize, strict: bool, n: u8) -> Option<PerKind>
     requires src_value { n ≡ 0 → is_read (line strict (record { at = at; bytes = src.now })) ≡ true }
     requires src_bound { at + length src.now ≤ 16777216 }
     requires src_bound_2 { n ≡ 0 → get (line_kind src.now) sizes + length (tidy_line strict at src.now) ≤ 18446744073709551615 }
     ensures { result ≡ grown_at n (line_kind src.now) (line strict (record { at = at; bytes = src.now })) sizes }
 {
     if n != 0 {
-        return Grown::Is(sizes);
+        return Some(sizes);
     }
     tidy_text::with_line(sizes, src, at, strict)
 }
 
-// Measures the lines from the first kept line on, in one pass. `ids` is empty at the start.
-fn measure_lines(text: &[u8], b: Begin, area: &mut [u32], ids: &mut [u32]) -> KeptSizes
+// Measures the lines from the first kept line on, in one pass, or answers the line of the first kept SQ whose name can't be written. `ids` is empty at
+// the start.
+fn measure_lines(
+    text: &[u8],
+    b: Begin,
+    area: &mut [u32],
+    ids: &mut [u32],
+) -> Result<KeptSizes, LineNo>
     requires text_len_bound { length text.now ≤ 16777216 }
     requires first { First text.now b }
     requires fresh { Fresh text.now area.old ids.old }
@@ -63,17 +67,18 @@ fn measure_lines(text: &[u8], b: Begin, area: &mut [u32], ids: &mut [u32]) -> Ke
         let at = c.at;
         let end = step.end;
         let grown = with_step(sizes, &text[at..end], at, b.strict, step.refusal);
-        let Grown::Is(next) = grown else {
-            return KeptSizes::Unwritable(LineNo(b.line + c.line as u32));
+        let Some(next) = grown else {
+            return Err(LineNo(b.line + c.line as u32));
         };
         sizes = next;
         c = step.next;
     }
-    KeptSizes::Is(sizes, c.line - c.kept)
+    let skipped = c.line - c.kept;
+    Ok(KeptSizes { sizes, skipped })
 }
 
 // The same, with slots of its own for the IDs of the kept programs. The area is all zeros afterwards.
-pub fn measure(text: &[u8], b: Begin, area: &mut [u32]) -> KeptSizes
+pub fn measure(text: &[u8], b: Begin, area: &mut [u32]) -> Result<KeptSizes, LineNo>
     requires text_len_bound { length text.now ≤ 16777216 }
     requires first { First text.now b }
     requires in_bounds { 4 ≤ length area.old }

@@ -17,12 +17,11 @@ use Rattle.lists.proofs.Bools.{never}
 use Rattle.accepted_line.proofs.Lax.{line-lax, read-lax}
 use Rattle.record.specs.Head.{record_head, head_of}
 use Rattle.catalogue_entries.specs.Entries.{entry_bytes}
-use Rattle.catalogue_entries.specs.declared.Place.{Place}
 use Rattle.catalogue_entries.specs.declared.Entry.TheVariants as entry
 use Rattle.catalogue_lines.specs.Line.{record_bytes, line_bytes}
 use Rattle.catalogue_lines.specs.Parts.{own_entry, plain_head, others_of}
 use Rattle.catalogue_lines.specs.declared.PlainLine.{PlainLine}
-use Rattle.catalogue_lines.specs.declared.PlainLine.TheVariants.{Is}
+use Rattle.std.specs.Prelude.{Option, Some}
 use Rattle.catalogue_lines.proofs.Records.{own-bytes, own-others}
 
 -- ---- the kind
@@ -81,10 +80,10 @@ alone n (refused_line k) h e = absurd (never (cc))
 alone n (read r) h e = ap (λ l. l ++ tails (others r)) (sym (own-bytes n r)) ∙ ap (λ l. entry_bytes (own_entry n (record_head r)) ++ l) (no-tails (others r) (sym (own-others r) ∙ e)) ∙ append-nil _
 
 -- so has a line that is recognised
-pub plain-bytes : (strict : Bool) (n at : ℕ) (s : List ℕ) → is_read (line strict (record { at = at; bytes = s })) ≡ true → (x : PlainLine) (p : Place) (l : ℕ) → x ≡ Is p l
-    → plain_head (head_of (line false (record { at = at; bytes = s }))) x ≡ head_of (line false (record { at = at; bytes = s })) → line_bytes strict n at s ≡ entry_bytes (entry.ReferenceSequence p l n)
+pub plain-bytes : (strict : Bool) (n at : ℕ) (s : List ℕ) → is_read (line strict (record { at = at; bytes = s })) ≡ true → (x : Option PlainLine) (p : PlainLine) → x ≡ Some p
+    → plain_head (head_of (line false (record { at = at; bytes = s }))) x ≡ head_of (line false (record { at = at; bytes = s })) → line_bytes strict n at s ≡ entry_bytes (entry.ReferenceSequence p.name p.length n)
 unfolding plain_head own_entry others_of
-plain-bytes strict n at s h x p l d e =
+plain-bytes strict n at s h x p d e =
     let y = line false (record { at = at; bytes = s }) in
     let q = sym e ∙ ap (plain_head (head_of y)) d in
     ap (record_bytes n) (line-lax strict (record { at = at; bytes = s }) h) ∙ alone n y (read-lax strict (record { at = at; bytes = s }) h) (ap others_of q) ∙ ap (λ h. entry_bytes (own_entry n h)) q

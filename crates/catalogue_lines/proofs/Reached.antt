@@ -1,5 +1,5 @@
 -- A walk that compares a catalogue record by record: how far it has come, and what it has found out at its end.
-use Prim.Native.Nat.{ℕ, ◌+◌, ◌≤◌}
+use Prim.Native.Nat.{ℕ, ◌≤◌}
 use mathlib.Core.Path.{◌≡◌, refl, sym, ap, ◌∙◌}
 use mathlib.Core.Bool.{false, ◌&&◌}
 use mathlib.Core.List.{List, [], ◌∷◌, ◌++◌, append-nil}
@@ -11,7 +11,7 @@ use Rattle.format.specs.Records.{Record, read}
 use Rattle.format.specs.Catalogue.{catalogue_from, catalogue}
 use Rattle.catalogue_lines.specs.Line.{record_bytes}
 use Rattle.catalogue_lines.specs.Matched.{matched, Reached}
-use Rattle.catalogue_lines.specs.declared.Matched.TheVariants.{Differs, Upto}
+use Rattle.std.specs.Prelude.{Some, None}
 use Rattle.catalogue_lines.proofs.Records.{catalogue-append, catalogue-more, catalogue-length}
 use Rattle.catalogue_same.proofs.Starts.{starts-append}
 use Rattle.catalogue_lines.proofs.Starts.{same-append, same_none, match-within, upto-says, differs-says}
@@ -29,7 +29,7 @@ module _ (c : List ℕ) (rs : List Record) (o : ℕ) (h : Reached c rs o) where
   onward xs = starts-append (catalogue rs) xs c ∙ ap (λ t. t && starts xs (drop (length (catalogue rs)) c)) h.front ∙ ap (λ n. starts xs (drop n c)) (sym h.place)
 
   -- the next record is there
-  pub reached-on : (r : Record) (n : ℕ) → matched o (drop o c) (record_bytes (length rs) (read r)) ≡ Upto n → Reached c (rs ++ (r ∷ [])) n
+  pub reached-on : (r : Record) (n : ℕ) → matched o (drop o c) (record_bytes (length rs) (read r)) ≡ Some n → Reached c (rs ++ (r ∷ [])) n
   reached-on r n e =
       let s = upto-says c o (record_bytes (length rs) (read r)) n e in
       record {
@@ -38,7 +38,7 @@ module _ (c : List ℕ) (rs : List Record) (o : ℕ) (h : Reached c rs o) where
       }
 
   -- it is not: this is the catalogue of no records that go on so
-  pub reached-off : (r : Record) → matched o (drop o c) (record_bytes (length rs) (read r)) ≡ Differs → (qs : List Record) → same c (catalogue ((rs ++ (r ∷ [])) ++ qs)) ≡ false
+  pub reached-off : (r : Record) → matched o (drop o c) (record_bytes (length rs) (read r)) ≡ None → (qs : List Record) → same c (catalogue ((rs ++ (r ∷ [])) ++ qs)) ≡ false
   reached-off r e qs =
       let f : starts (catalogue (rs ++ (r ∷ []))) c ≡ false = ap (λ l. starts l c) (catalogue-more rs r) ∙ onward (record_bytes (length rs) (read r)) ∙ differs-says c o (record_bytes (length rs) (read r)) e in
       ap (same c) (catalogue-append (rs ++ (r ∷ [])) qs)

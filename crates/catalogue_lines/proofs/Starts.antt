@@ -4,16 +4,15 @@ use mathlib.Core.Path.{◌≡◌, refl, sym, ap, ◌∙◌}
 use mathlib.Core.Bool.{Bool, true, false, ◌&&◌, cond}
 use mathlib.Core.List.{List, [], ◌∷◌, ◌++◌}
 use native.Mathlib.Omega.{arith}
-use native.Mathlib.Nat.{add-zero}
-use lib.ListN.{length, drop, length-append, length-drop}
-use lib.Seq.{drop-drop}
+use lib.ListN.{length, drop, length-drop}
 use lib.Dec.{eqb}
 use borrow.Author.Tests.{eq-eqb, ne_eqb}
 use Rattle.format.specs.Bytes.{same, starts}
-use Rattle.lists.proofs.Bools.{never, and_right, eqb-sym}
-use Rattle.catalogue_same.proofs.Starts.{starts-within, starts-append}
+use Rattle.lists.proofs.Bools.{never, eqb-sym}
+use Rattle.catalogue_same.proofs.Starts.{starts-within}
 use Rattle.catalogue_lines.specs.Matched.{matched}
-use Rattle.catalogue_lines.specs.declared.Matched.TheVariants.{Differs, Upto}
+use Rattle.std.specs.Prelude.{Some, None}
+use Rattle.std.specs.Bool.{then_some}
 
 and_assoc : (a b c : Bool) → a && (b && c) ≡ (a && b) && c
 and_assoc true b c = refl
@@ -47,28 +46,32 @@ module _ (c : List ℕ) (o : ℕ) where
 
   -- the answer, by whether it is there
   module _ (xs : List ℕ) where
-    pub match-there : (n : ℕ) → n ≡ o + length xs → starts xs (drop o c) ≡ true → Upto n ≡ matched o (drop o c) xs
+    pub match-there : (n : ℕ) → n ≡ o + length xs → starts xs (drop o c) ≡ true → Some n ≡ matched o (drop o c) xs
     unfolding matched
-    match-there n e q = rw q (ap Upto e)
+    match-there n e q = rw q (ap Some e)
 
-    pub match-gone : starts xs (drop o c) ≡ false → Differs ≡ matched o (drop o c) xs
+    pub match-gone : starts xs (drop o c) ≡ false → None ≡ matched o (drop o c) xs
     unfolding matched
     match-gone q = rw q refl
 
+    pub match-told : (b : Bool) (n : ℕ) → starts xs (drop o c) ≡ b → n ≡ o + length xs → then_some b n ≡ matched o (drop o c) xs
+    match-told true n q e = match-there n e q
+    match-told false n q e = match-gone q
+
   -- what an answer says
   module _ (xs : List ℕ) where
-    pub upto-says : (n : ℕ) → matched o (drop o c) xs ≡ Upto n → (starts xs (drop o c) ≡ true) × (n ≡ o + length xs)
+    pub upto-says : (n : ℕ) → matched o (drop o c) xs ≡ Some n → (starts xs (drop o c) ≡ true) × (n ≡ o + length xs)
     unfolding matched
     upto-says n e = go (starts xs (drop o c)) refl e
       where
-        go : (t : Bool) → starts xs (drop o c) ≡ t → cond t (Upto (o + length xs)) Differs ≡ Upto n → (starts xs (drop o c) ≡ true) × (n ≡ o + length xs)
+        go : (t : Bool) → starts xs (drop o c) ≡ t → cond t (Some (o + length xs)) None ≡ Some n → (starts xs (drop o c) ≡ true) × (n ≡ o + length xs)
         go true q e = (q, cc)
         go false q e = absurd (never (cc))
 
-    pub differs-says : matched o (drop o c) xs ≡ Differs → starts xs (drop o c) ≡ false
+    pub differs-says : matched o (drop o c) xs ≡ None → starts xs (drop o c) ≡ false
     unfolding matched
     differs-says e = go (starts xs (drop o c)) refl e
       where
-        go : (t : Bool) → starts xs (drop o c) ≡ t → cond t (Upto (o + length xs)) Differs ≡ Differs → starts xs (drop o c) ≡ false
+        go : (t : Bool) → starts xs (drop o c) ≡ t → cond t (Some (o + length xs)) None ≡ None → starts xs (drop o c) ≡ false
         go true q e = absurd (never (cc))
         go false q e = q

@@ -1,5 +1,5 @@
 -- The entries of a line, from the answer of reading it: the own entry from its head, and one entry per other field that a walk gives.
-use Rattle.std.specs.Prelude.{ℕ, ◌+◌, ◌*◌, List}
+use Rattle.std.specs.Prelude.{ℕ, ◌+◌, ◌*◌, List, Option, Some, None}
 use Rattle.format.specs.Catalogue.{tails}
 use Rattle.format.specs.declared.Kind.{Kind}
 use Rattle.format.specs.declared.Kind.TheVariants as kind
@@ -13,7 +13,6 @@ use Rattle.catalogue_entries.specs.declared.Entry.{Entry}
 use Rattle.catalogue_entries.specs.declared.Entry.TheVariants as entry
 use Rattle.catalogue_entries.specs.Entries.{kind_size, entry_size}
 use Rattle.catalogue_lines.specs.declared.PlainLine.{PlainLine}
-use Rattle.catalogue_lines.specs.declared.PlainLine.TheVariants.{Other, Is}
 
 -- a place, in the numbers of an entry
 abbrev pub entry_place : record'.Stretch → Place
@@ -29,9 +28,9 @@ own_entry k (Program p n) = entry.Program (entry_place p) k
 own_entry k (Comment p) = entry.Comment (entry_place p) k
 
 -- the head of a line that may have been recognised whole: of another line it is `h`
-unfoldable pub plain_head : Head → PlainLine → Head
-plain_head h Other = h
-plain_head h (Is p l) = ReferenceSequence (record { at = p.at; len = p.len }) l 0
+unfoldable pub plain_head : Head → Option PlainLine → Head
+plain_head h None = h
+plain_head h (Some p) = ReferenceSequence (record { at = p.name.at; len = p.name.len }) p.length 0
 
 -- how many other fields it has
 unfoldable pub others_of : Head → ℕ

@@ -15,21 +15,13 @@ ghost use Rattle.accepted_line.specs.Form.{LineOf, IsForm};
 ghost use Rattle.accepted_line.specs.Keys.{keys_in};
 ghost use Rattle.catalogue_entries.specs.Entries.{entry_size, entry_bytes, FitsEntry};
 ghost use Rattle.catalogue_lines.specs.Line.{line_bytes};
-ghost use Rattle.catalogue_lines.specs.Parts.{own_entry, plain_head, others_of, size_of_head, own_size, field_bytes};
+ghost use Rattle.catalogue_lines.specs.Parts.{entry_place, own_entry, plain_head, others_of, size_of_head, own_size, field_bytes};
 ghost use Rattle.catalogue_lines.specs.Matched.{met_in, compared_of, matched};
 
 use accepted_line::{Form, KeyValues};
 use catalogue_entries::{Entry, Place};
 use format::Kind;
-use record::Head;
-use record_parser::plain::Plain;
-
-// Whether a catalogue has the expected bytes at a place, and if so, the place after them.
-#[derive(Clone, Copy)]
-pub enum Matched {
-    Differs,
-    Upto(usize),
-}
+use record::{Head, Stretch};
 
 // Where a line is: its offset in the text, and its number.
 #[derive(Clone, Copy)]
@@ -45,31 +37,24 @@ struct Met {
     keys: KeyValues,
 }
 
-// Whether a catalogue has those entries, and if so, what the walk found.
+// Where the name of an SQ with SN and LN alone is, and the length of its sequence.
 #[derive(Clone, Copy)]
-enum Compared {
-    Differs,
-    Same(Met),
-}
-
-// Where the name of an SQ with SN and LN alone is, and its length; or it is another line.
-#[derive(Clone, Copy)]
-enum PlainLine {
-    Other,
-    Is(Place, u64),
+struct PlainLine {
+    name: Place,
+    length: u64,
 }
 
 // How many other fields a record has.
+#[tactic(auto, unfolding(crate::specs::Parts::others_of))]
 fn others_of(head: Head) -> usize
     ensures { result ≡ others_of head }
 {
     match head {
-        Head::Refused(_) => 0,
-        Head::Header(_, n) => n,
-        Head::ReferenceSequence(_, _, n) => n,
-        Head::ReadGroup(_, n) => n,
-        Head::Program(_, n) => n,
-        Head::Comment(_) => 0,
+        Head::Refused(_) | Head::Comment(_) => 0,
+        Head::Header(_, n)
+        | Head::ReferenceSequence(_, _, n)
+        | Head::ReadGroup(_, n)
+        | Head::Program(_, n) => n,
     }
 }
 
@@ -99,13 +84,13 @@ pub fn entries_size(head: Head) -> usize
 }
 
 // A place, in the numbers of an entry.
-fn narrow(at: usize, len: usize) -> Place
-    requires { (at < 2 ^ 32) × (len < 2 ^ 32) }
-    ensures { result ≡ record { at = at; len = len } }
+fn narrow(p: Stretch) -> Place
+    requires { (p.at < 2 ^ 32) × (p.len < 2 ^ 32) }
+    ensures { result ≡ entry_place p }
 {
     Place {
-        at: at as u32,
-        len: len as u32,
+        at: p.at as u32,
+        len: p.len as u32,
     }
 }
 
@@ -117,12 +102,10 @@ fn own_entry(head: Head, number: u32) -> Entry
     match head {
         Head::Refused(_) => Entry::End,
         Head::Header(v, _) => Entry::Header(v, number),
-        Head::ReferenceSequence(p, n, _) => {
-            Entry::ReferenceSequence(narrow(p.at, p.len), n, number)
-        }
-        Head::ReadGroup(p, _) => Entry::ReadGroup(narrow(p.at, p.len), number),
-        Head::Program(p, _) => Entry::Program(narrow(p.at, p.len), number),
-        Head::Comment(p) => Entry::Comment(narrow(p.at, p.len), number),
+        Head::ReferenceSequence(p, n, _) => Entry::ReferenceSequence(narrow(p), n, number),
+        Head::ReadGroup(p, _) => Entry::ReadGroup(narrow(p), number),
+        Head::Program(p, _) => Entry::Program(narrow(p), number),
+        Head::Comment(p) => Entry::Comment(narrow(p), number),
     }
 }
 
@@ -131,11 +114,8 @@ fn own_size(kind: Kind) -> usize
     ensures { result ≡ own_size kind }
 {
     match kind {
-        Kind::Header => 13,
         Kind::ReferenceSequence => 21,
-        Kind::ReadGroup => 13,
-        Kind::Program => 13,
-        Kind::Comment => 13,
+        Kind::Header | Kind::ReadGroup | Kind::Program | Kind::Comment => 13,
     }
 }
 
@@ -156,19 +136,24 @@ fn comment_entry(src: &[u8], at: usize, number: u32) -> Entry
     line_entry(Kind::Comment, src, at, number, KeyValues::new())
 }
 
-// Whether an accepted line is an SQ with SN and LN alone, as most lines are. It is recognised whole, without a walk over its fields.
-fn plain_line(src: &[u8], at: usize) -> PlainLine
+// The parts of an accepted line that is an SQ with SN and LN alone, as most lines are. It is recognised whole, without a walk over its fields.
+fn plain_line(src: &[u8], at: usize) -> Option<PlainLine>
     requires src_value { is_read (line false (record { at = at; bytes = src.now })) ≡ true }
     requires src_bound { at + length src.now ≤ 16777216 }
     ensures { plain_head (head_of (line false (record { at = at; bytes = src.now }))) result ≡ head_of (line false (record { at = at; bytes = src.now })) }
 {
     if src[1] != b'S' {
-        return PlainLine::Other;
+        return None;
     }
-    let Plain::Is(len, n) = record_parser::plain::parse_plain(src) else {
-        return PlainLine::Other;
-    };
-    PlainLine::Is(narrow(at + 7, len), n)
+    let plain = record_parser::plain::parse_plain(src)?;
+    let name = narrow(Stretch {
+        at: at + 7,
+        len: plain.name_len,
+    });
+    Some(PlainLine {
+        name,
+        length: plain.length,
+    })
 }
 
 // Writes the entries of an accepted line's other fields from `o` on. The same walk finds the keys.
@@ -190,7 +175,7 @@ fn put_fields(out: &mut [u8], o: usize, kind: Kind, src: &[u8], at: usize, table
             keys = keys.with(a, accepted_line::fields::value_at(at, i, end));
         } else if accepted_line::fields::is_first_of_tag(src, at, i, tables) {
             let v = accepted_line::fields::kept_value(src, at, i, end, tables);
-            catalogue_put::put_field(out, next, a, b, narrow(v.at, v.len));
+            catalogue_put::put_field(out, next, a, b, narrow(v));
             next += 11;
         }
         i = end;
@@ -260,14 +245,15 @@ pub fn put_record(
     ensures next { result ≡ o + length (line_bytes strict number at src.now) }
     ensures wrote { out.new ≡ over out.old o (line_bytes strict number at src.now) }
 {
-    let PlainLine::Is(name, n) = plain_line(src, at) else {
+    let Some(plain) = plain_line(src, at) else {
         let form = accepted_line::form_of(src, at, strict);
         return put_formed(out, o, form, src, LinePlace { at, number });
     };
-    catalogue_put::put_entry(out, o, Entry::ReferenceSequence(name, n, number))
+    let entry = Entry::ReferenceSequence(plain.name, plain.length, number);
+    catalogue_put::put_entry(out, o, entry)
 }
 
-// Whether the catalogue has the entries of an accepted line's other fields at `o`. The same walk finds the keys.
+// What a walk over an accepted line's other fields finds, if the catalogue has their entries at `o`; none if it has others.
 fn same_fields(
     catalogue: &[u8],
     o: usize,
@@ -275,7 +261,7 @@ fn same_fields(
     src: &[u8],
     at: usize,
     tables: &[u32],
-) -> Compared
+) -> Option<Met>
     requires walkable { Walkable at src.now tables.now }
     requires src_bound { at + length src.now ≤ 16777216 }
     requires o_in_bounds { o ≤ length catalogue.now }
@@ -293,18 +279,18 @@ fn same_fields(
             keys = keys.with(a, accepted_line::fields::value_at(at, i, end));
         } else if accepted_line::fields::is_first_of_tag(src, at, i, tables) {
             let v = accepted_line::fields::kept_value(src, at, i, end, tables);
-            if !catalogue_same::same_field(catalogue, next, a, b, narrow(v.at, v.len)) {
-                return Compared::Differs;
+            if !catalogue_same::same_field(catalogue, next, a, b, narrow(v)) {
+                return None;
             }
             next += 11;
         }
         i = end;
     }
-    Compared::Same(Met { next, keys })
+    Some(Met { next, keys })
 }
 
-// Whether the catalogue has the entries of an accepted line of fields at `o`, and if so, the place after them. The own entry is compared last, once
-// its keys are found.
+// The place after the entries of an accepted line of fields, if the catalogue has them at `o`. The own entry is compared last, once its keys are
+// found.
 fn same_line(
     catalogue: &[u8],
     o: usize,
@@ -312,7 +298,7 @@ fn same_line(
     src: &[u8],
     place: LinePlace,
     tables: &[u32],
-) -> Matched
+) -> Option<usize>
     requires line_of { LineOf kind place.at src.now }
     requires kind_value { is_comment kind ≡ false }
     requires walkable { Walkable place.at src.now tables.now }
@@ -321,24 +307,21 @@ fn same_line(
 {
     let n = own_size(kind);
     if catalogue.len() - o < n {
-        return Matched::Differs;
+        return None;
     }
-    let compared = same_fields(catalogue, o + n, kind, src, place.at, tables);
-    let Compared::Same(met) = compared else {
-        return Matched::Differs;
-    };
-    if catalogue_same::same_entry(
-        catalogue,
-        o,
-        line_entry(kind, src, place.at, place.number, met.keys),
-    ) {
-        return Matched::Upto(met.next);
-    }
-    Matched::Differs
+    let met = same_fields(catalogue, o + n, kind, src, place.at, tables)?;
+    let entry = line_entry(kind, src, place.at, place.number, met.keys);
+    catalogue_same::same_entry(catalogue, o, entry).then_some(met.next)
 }
 
-// Whether the catalogue has the entries of an accepted line of a form at `o`, and if so, the place after them.
-fn same_formed(catalogue: &[u8], o: usize, form: Form, src: &[u8], place: LinePlace) -> Matched
+// The place after the entries of an accepted line of a form, if the catalogue has them at `o`.
+fn same_formed(
+    catalogue: &[u8],
+    o: usize,
+    form: Form,
+    src: &[u8],
+    place: LinePlace,
+) -> Option<usize>
     requires form { IsForm place.at src.now form }
     requires o_in_bounds { o ≤ length catalogue.now }
     ensures { result ≡ matched o (drop o catalogue.now) (line_bytes false place.number place.at src.now) }
@@ -346,10 +329,7 @@ fn same_formed(catalogue: &[u8], o: usize, form: Form, src: &[u8], place: LinePl
     match form {
         Form::Comment => {
             let entry = comment_entry(src, place.at, place.number);
-            if catalogue_same::same_entry(catalogue, o, entry) {
-                return Matched::Upto(o + 13);
-            }
-            Matched::Differs
+            catalogue_same::same_entry(catalogue, o, entry).then_some(o + 13)
         }
         Form::Once(kind) => same_line(catalogue, o, kind, src, place, &[]),
         Form::Repeating(kind) => {
@@ -360,8 +340,8 @@ fn same_formed(catalogue: &[u8], o: usize, form: Form, src: &[u8], place: LinePl
     }
 }
 
-// Whether the catalogue has the entries of the accepted line `src` at `o`, and if so, the place after them. The line has the number `number` and
-// starts at the offset `at`.
+// The place after the entries of the accepted line `src`, if the catalogue has them at `o`. The line has the number `number` and starts at the offset
+// `at`.
 pub fn same_record(
     catalogue: &[u8],
     o: usize,
@@ -369,18 +349,16 @@ pub fn same_record(
     at: usize,
     number: u32,
     strict: bool,
-) -> Matched
+) -> Option<usize>
     requires src_value { is_read (line strict (record { at = at; bytes = src.now })) ≡ true }
     requires src_bound { at + length src.now ≤ 16777216 }
     requires o_in_bounds { o ≤ length catalogue.now }
     ensures { result ≡ matched o (drop o catalogue.now) (line_bytes strict number at src.now) }
 {
-    let PlainLine::Is(name, n) = plain_line(src, at) else {
+    let Some(plain) = plain_line(src, at) else {
         let form = accepted_line::form_of(src, at, strict);
         return same_formed(catalogue, o, form, src, LinePlace { at, number });
     };
-    if catalogue_same::same_entry(catalogue, o, Entry::ReferenceSequence(name, n, number)) {
-        return Matched::Upto(o + 21);
-    }
-    Matched::Differs
+    let entry = Entry::ReferenceSequence(plain.name, plain.length, number);
+    catalogue_same::same_entry(catalogue, o, entry).then_some(o + 21)
 }

@@ -5,6 +5,7 @@ use mathlib.Core.Bool.{Bool, true, false, cond}
 use mathlib.Core.List.{List, [], ◌∷◌, ◌++◌, map}
 use mathlib.Core.Option.{Option, none, some}
 use native.Mathlib.Omega.{arith}
+use Rattle.std.specs.Prelude.{None, Some}
 use lib.ListN.{drop, get_elem?}
 use lib.Dec.{eqb, ltb}
 use borrow.Author.Tests.{ltb-true, ltb-false, ne_eqb, eqb-true}
@@ -26,8 +27,6 @@ use Rattle.catalogue_entries.specs.declared.Entry.TheVariants as entry
 use Rattle.catalogue_entries.specs.Entries.{kind_byte, piece_at, head_entry, field_entry, entries_on, entries_of, entries_in}
 use Rattle.catalogue_entries.proofs.Records.{head-kind}
 use Rattle.catalogue_entries.proofs.Found.{records_from, line_from, first-record}
-use Rattle.catalogue_lookup.specs.declared.Found.TheVariants.{Nothing, At}
-use Rattle.catalogue_lookup.specs.declared.Located.TheVariants as located
 use Rattle.catalogue_lookup.specs.Lookup.{found_of, sized_of, located_of, entries_from, first_entry, entry_key, entry_length, entry_line, value_in, key_in, length_in, line_in, field_in}
 use Rattle.catalogue_lookup.proofs.Kept.{text-entries}
 
@@ -95,7 +94,7 @@ code_below (comment p) = omega arith
 no-records : (k i : ℕ) → 5 < k → (rs : List Record) → get_elem? (of_kind k rs) i ≡ none
 no-records k i h rs = ap (λ qs. get_elem? qs i) (of_kind-none k rs (each_all (λ r. eqb (code r) k ≡ false) (λ r. ne_eqb (code r) k (λ e. omega (arith, code_below r))) rs))
 
-no_key_lem : (k : ℕ) → 5 < k → (e : Entry) → kind_byte e ≡ k → entry_key e ≡ Nothing
+no_key_lem : (k : ℕ) → 5 < k → (e : Entry) → kind_byte e ≡ k → entry_key e ≡ None
 unfolding kind_byte entry_key
 no_key_lem k h entry.End q = refl
 no_key_lem k h (entry.Header v l) q = refl
@@ -105,7 +104,7 @@ no_key_lem k h (entry.Program p l) q = absurd (omega arith)
 no_key_lem k h (entry.Comment p l) q = refl
 no_key_lem k h (entry.Field a b p) q = refl
 
-no_line : (k : ℕ) → 5 < k → (e : Entry) → kind_byte e ≡ k → entry_line e ≡ located.Nothing
+no_line : (k : ℕ) → 5 < k → (e : Entry) → kind_byte e ≡ k → entry_line e ≡ None
 unfolding kind_byte entry_line
 no_line k h entry.End q = refl
 no_line k h (entry.Header v l) q = absurd (omega arith)
@@ -146,7 +145,7 @@ unfolding key_in
 key-records k i rs = split (ltb 5 k) (λ q. above (ltb-true 5 k q)) (λ q. below (ltb-false 5 k q))
   where
     above : 5 < k → entry_key (first_entry (entries_from k i (entries_of rs))) ≡ found_of (key_if_there (get_elem? (of_kind k rs) i))
-    above h = no_says entry_key Nothing k (unfold entry_key in refl) (no_key_lem k h) i (entries_of rs) ∙ unfold found_of key_if_there in ap (λ o. found_of (key_if_there o)) (sym (no-records k i h rs))
+    above h = no_says entry_key None k (unfold entry_key in refl) (no_key_lem k h) i (entries_of rs) ∙ unfold found_of key_if_there in ap (λ o. found_of (key_if_there o)) (sym (no-records k i h rs))
 
     below : k ≤ 5 → entry_key (first_entry (entries_from k i (entries_of rs))) ≡ found_of (key_if_there (get_elem? (of_kind k rs) i))
     below h =
@@ -210,12 +209,12 @@ unfolding line_in entries_of
 line-records k i rs = split (ltb 5 k) (λ q. above (ltb-true 5 k q)) (λ q. line_on k i (omega (arith, ltb-false 5 k q)) 0 rs)
   where
     above : 5 < k → entry_line (first_entry (entries_from k i (entries_on 0 rs))) ≡ located_of (get_elem? (lines_of k 0 rs) i)
-    above h = no_says entry_line located.Nothing k (unfold entry_line in refl) (no_line k h) i (entries_on 0 rs) ∙ unfold located_of in ap located_of (sym (no_lines k i h 0 rs))
+    above h = no_says entry_line None k (unfold entry_line in refl) (no_line k h) i (entries_on 0 rs) ∙ unfold located_of in ap located_of (sym (no_lines k i h 0 rs))
 
 -- ---- fields
 
 -- a record's entry is no field
-no_value_lem : (a b l : ℕ) (rs : List Record) → value_in a b (entries_on l rs) ≡ Nothing
+no_value_lem : (a b l : ℕ) (rs : List Record) → value_in a b (entries_on l rs) ≡ None
 unfolding value_in entries_on head_entry
 no_value_lem a b l [] = refl
 no_value_lem a b l (header v fs ∷ rs) = refl
@@ -253,7 +252,7 @@ value-fields a b (f ∷ fs) l rs h = go (tagged a b f) refl (value-fields a b fs
         last_none a b fs (ap₂ (λ x y. any (tagged x y) fs) (sym e.0) (sym e.1) ∙ or_left (any (tagged f.tag₀ f.tag₁) fs) (repeats fs) h)
 
     go : (t : Bool) → tagged a b f ≡ t → value_in a b (map field_entry fs ++ entries_on l rs) ≡ found_of (last_of a b fs)
-        → cond t (At (piece_at f.value)) (value_in a b (map field_entry fs ++ entries_on l rs)) ≡ found_of (later (cond t (some f.value) none) (last_of a b fs))
+        → cond t (Some (piece_at f.value)) (value_in a b (map field_entry fs ++ entries_on l rs)) ≡ found_of (later (cond t (some f.value) none) (last_of a b fs))
     go true q ih = ap (λ o. found_of (later (some f.value) o)) (sym (once q))
     go false q ih = ih ∙ ap found_of (sym (later-none (last_of a b fs)))
 
@@ -266,7 +265,7 @@ pub field-records : (k i a b : ℕ) (rs : List Record) → Each Sound rs → fie
 unfolding field_in
 field-records k i a b rs s = split (ltb 5 k) (λ q. rw q (above (ltb-true 5 k q))) (λ q. rw q (below (ltb-false 5 k q)))
   where
-    above : 5 < k → Nothing ≡ found_of (value_if_there a b (get_elem? (of_kind k rs) i))
+    above : 5 < k → None ≡ found_of (value_if_there a b (get_elem? (of_kind k rs) i))
     above h = unfold found_of value_if_there in ap (λ o. found_of (value_if_there a b o)) (sym (no-records k i h rs))
 
     below : k ≤ 5 → value_in a b (drop 1 (entries_from k i (entries_of rs))) ≡ found_of (value_if_there a b (get_elem? (of_kind k rs) i))

@@ -1,34 +1,31 @@
 -- What is found in the entries of a catalogue: the key of a record, the LN of an SQ, the line of a record, the value of a field.
-use Rattle.std.specs.Prelude.{ℕ, zero, suc, ◌&&◌, cond, List, [], ◌∷◌, drop, eqb, ltb}
-use Rattle.std.proofs.Math.Option.{Option, none, some}
+use Rattle.std.specs.Prelude.{ℕ, zero, suc, ◌&&◌, cond, List, [], ◌∷◌, drop, eqb, ltb, Option, None, Some}
+use Rattle.std.proofs.Math.Option as math
+use Rattle.std.proofs.Math.Option.{none, some}
 use Rattle.format.specs.Lines.{Piece}
+use Rattle.format.specs.declared.LineNo.{LineNo}
+use Rattle.catalogue_entries.specs.declared.Place.{Place}
 use Rattle.catalogue_entries.specs.declared.Entry.{Entry}
 use Rattle.catalogue_entries.specs.declared.Entry.TheVariants.{End, Header, ReferenceSequence, ReadGroup, Program, Comment, Field}
 use Rattle.catalogue_entries.specs.Entries.{kind_byte, piece_at}
-use Rattle.catalogue_lookup.specs.declared.Found.{Found}
-use Rattle.catalogue_lookup.specs.declared.Found.TheVariants.{Nothing, At}
-use Rattle.catalogue_lookup.specs.declared.Sized.{Sized}
-use Rattle.catalogue_lookup.specs.declared.Sized.TheVariants as sized
-use Rattle.catalogue_lookup.specs.declared.Located.{Located}
-use Rattle.catalogue_lookup.specs.declared.Located.TheVariants as located
 
 -- ---- answers
 
 -- where a piece is, if there is one
-unfoldable pub found_of : Option Piece → Found
+unfoldable pub found_of : math.Option Piece → Option Place
 unfolding piece_at
-found_of none = Nothing
-found_of (some p) = At (piece_at p)
+found_of none = None
+found_of (some p) = Some (piece_at p)
 
 -- a length, if there is one
-unfoldable pub sized_of : Option ℕ → Sized
-sized_of none = sized.Nothing
-sized_of (some n) = sized.Is n
+unfoldable pub sized_of : math.Option ℕ → Option ℕ
+sized_of none = None
+sized_of (some n) = Some n
 
 -- a line, if there is one
-unfoldable pub located_of : Option ℕ → Located
-located_of none = located.Nothing
-located_of (some l) = located.On (record { 0 = l })
+unfoldable pub located_of : math.Option ℕ → Option LineNo
+located_of none = None
+located_of (some l) = Some (record { 0 = l })
 
 -- ---- entries
 
@@ -45,61 +42,61 @@ first_entry [] = End
 first_entry (e ∷ es) = e
 
 -- the key in an entry: SN of SQ, ID of RG and PG
-unfoldable pub entry_key : Entry → Found
-entry_key End = Nothing
-entry_key (Header v l) = Nothing
-entry_key (ReferenceSequence p n l) = At p
-entry_key (ReadGroup p l) = At p
-entry_key (Program p l) = At p
-entry_key (Comment p l) = Nothing
-entry_key (Field a b p) = Nothing
+unfoldable pub entry_key : Entry → Option Place
+entry_key End = None
+entry_key (Header v l) = None
+entry_key (ReferenceSequence p n l) = Some p
+entry_key (ReadGroup p l) = Some p
+entry_key (Program p l) = Some p
+entry_key (Comment p l) = None
+entry_key (Field a b p) = None
 
 -- the LN in an entry
-unfoldable pub entry_length : Entry → Sized
-entry_length End = sized.Nothing
-entry_length (Header v l) = sized.Nothing
-entry_length (ReferenceSequence p n l) = sized.Is n
-entry_length (ReadGroup p l) = sized.Nothing
-entry_length (Program p l) = sized.Nothing
-entry_length (Comment p l) = sized.Nothing
-entry_length (Field a b p) = sized.Nothing
+unfoldable pub entry_length : Entry → Option ℕ
+entry_length End = None
+entry_length (Header v l) = None
+entry_length (ReferenceSequence p n l) = Some n
+entry_length (ReadGroup p l) = None
+entry_length (Program p l) = None
+entry_length (Comment p l) = None
+entry_length (Field a b p) = None
 
 -- the line in an entry of a record; a field has none
-unfoldable pub entry_line : Entry → Located
-entry_line End = located.Nothing
-entry_line (Header v l) = located.On (record { 0 = l })
-entry_line (ReferenceSequence p n l) = located.On (record { 0 = l })
-entry_line (ReadGroup p l) = located.On (record { 0 = l })
-entry_line (Program p l) = located.On (record { 0 = l })
-entry_line (Comment p l) = located.On (record { 0 = l })
-entry_line (Field a b p) = located.Nothing
+unfoldable pub entry_line : Entry → Option LineNo
+entry_line End = None
+entry_line (Header v l) = Some (record { 0 = l })
+entry_line (ReferenceSequence p n l) = Some (record { 0 = l })
+entry_line (ReadGroup p l) = Some (record { 0 = l })
+entry_line (Program p l) = Some (record { 0 = l })
+entry_line (Comment p l) = Some (record { 0 = l })
+entry_line (Field a b p) = None
 
 -- the value in the field entry with the tag `a`, `b`, before the next record's entry
-unfoldable pub value_in : ℕ → ℕ → List Entry → Found
-value_in a b [] = Nothing
-value_in a b (End ∷ es) = Nothing
-value_in a b (Header v l ∷ es) = Nothing
-value_in a b (ReferenceSequence p n l ∷ es) = Nothing
-value_in a b (ReadGroup p l ∷ es) = Nothing
-value_in a b (Program p l ∷ es) = Nothing
-value_in a b (Comment p l ∷ es) = Nothing
-value_in a b (Field x y p ∷ es) = cond (eqb x a && eqb y b) (At p) (value_in a b es)
+unfoldable pub value_in : ℕ → ℕ → List Entry → Option Place
+value_in a b [] = None
+value_in a b (End ∷ es) = None
+value_in a b (Header v l ∷ es) = None
+value_in a b (ReferenceSequence p n l ∷ es) = None
+value_in a b (ReadGroup p l ∷ es) = None
+value_in a b (Program p l ∷ es) = None
+value_in a b (Comment p l ∷ es) = None
+value_in a b (Field x y p ∷ es) = cond (eqb x a && eqb y b) (Some p) (value_in a b es)
 
 -- ---- the record of kind `k` with `i` of that kind before it
 
-unfoldable pub key_in : ℕ → ℕ → List Entry → Found
+unfoldable pub key_in : ℕ → ℕ → List Entry → Option Place
 unfolding entry_key first_entry entries_from
 key_in k i es = entry_key (first_entry (entries_from k i es))
 
-unfoldable pub length_in : ℕ → List Entry → Sized
+unfoldable pub length_in : ℕ → List Entry → Option ℕ
 unfolding entry_length first_entry entries_from
 length_in i es = entry_length (first_entry (entries_from 2 i es))
 
-unfoldable pub line_in : ℕ → ℕ → List Entry → Located
+unfoldable pub line_in : ℕ → ℕ → List Entry → Option LineNo
 unfolding entry_line first_entry entries_from
 line_in k i es = entry_line (first_entry (entries_from k i es))
 
 -- a field entry belongs to the record before it, and is not itself a record
-unfoldable pub field_in : ℕ → ℕ → ℕ → ℕ → List Entry → Found
+unfoldable pub field_in : ℕ → ℕ → ℕ → ℕ → List Entry → Option Place
 unfolding value_in entries_from
-field_in k i a b es = cond (ltb 5 k) Nothing (value_in a b (drop 1 (entries_from k i es)))
+field_in k i a b es = cond (ltb 5 k) None (value_in a b (drop 1 (entries_from k i es)))

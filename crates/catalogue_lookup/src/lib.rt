@@ -9,65 +9,44 @@ ghost use Rattle.catalogue_lookup.specs.CallAnswers.{KeyTold, LengthTold, LineTo
 use catalogue_entries::{Entry, Place};
 use format::LineNo;
 
-// A place of the text, if there is one.
-#[derive(Clone, Copy)]
-pub enum Found {
-    Nothing,
-    At(Place),
-}
-
-// A length, if there is one.
-#[derive(Clone, Copy)]
-pub enum Sized {
-    Nothing,
-    Is(u64),
-}
-
-// A line, if there is one.
-#[derive(Clone, Copy)]
-pub enum Located {
-    Nothing,
-    On(LineNo),
-}
-
 // The key in an entry: SN of SQ, ID of RG and PG.
-fn key_of(e: Entry) -> Found
+fn key_of(e: Entry) -> Option<Place>
     ensures { result ≡ entry_key e }
 {
     match e {
-        Entry::ReferenceSequence(p, _, _) => Found::At(p),
-        Entry::ReadGroup(p, _) => Found::At(p),
-        Entry::Program(p, _) => Found::At(p),
-        _ => Found::Nothing,
+        Entry::ReferenceSequence(p, _, _) => Some(p),
+        Entry::ReadGroup(p, _) => Some(p),
+        Entry::Program(p, _) => Some(p),
+        _ => None,
     }
 }
 
 // The LN in an entry.
-fn length_of(e: Entry) -> Sized
+fn length_of(e: Entry) -> Option<u64>
     ensures { result ≡ entry_length e }
 {
     match e {
-        Entry::ReferenceSequence(_, n, _) => Sized::Is(n),
-        _ => Sized::Nothing,
+        Entry::ReferenceSequence(_, n, _) => Some(n),
+        _ => None,
     }
 }
 
 // The line in an entry of a record. A field has none.
-fn line_of(e: Entry) -> Located
+fn line_of(e: Entry) -> Option<LineNo>
     ensures { result ≡ entry_line e }
 {
     match e {
-        Entry::Header(_, line) => Located::On(LineNo(line)),
-        Entry::ReferenceSequence(_, _, line) => Located::On(LineNo(line)),
-        Entry::ReadGroup(_, line) => Located::On(LineNo(line)),
-        Entry::Program(_, line) => Located::On(LineNo(line)),
-        Entry::Comment(_, line) => Located::On(LineNo(line)),
-        _ => Located::Nothing,
+        Entry::Header(_, line) => Some(LineNo(line)),
+        Entry::ReferenceSequence(_, _, line) => Some(LineNo(line)),
+        Entry::ReadGroup(_, line) => Some(LineNo(line)),
+        Entry::Program(_, line) => Some(LineNo(line)),
+        Entry::Comment(_, line) => Some(LineNo(line)),
+        _ => None,
     }
 }
 
 // The key of the record with an ordinal among those of a kind. SQ, RG and PG have one.
-pub fn find_key(catalogue: &[u8], kind: u8, ordinal: u32) -> Found
+pub fn find_key(catalogue: &[u8], kind: u8, ordinal: u32) -> Option<Place>
     ensures is { result ≡ key_in kind ordinal (entries_in catalogue.now) }
     ensures answer { KeyTold catalogue.now kind ordinal result }
 {
@@ -76,7 +55,7 @@ pub fn find_key(catalogue: &[u8], kind: u8, ordinal: u32) -> Found
 }
 
 // The LN of the SQ with an ordinal.
-pub fn find_length(catalogue: &[u8], ordinal: u32) -> Sized
+pub fn find_length(catalogue: &[u8], ordinal: u32) -> Option<u64>
     ensures is { result ≡ length_in ordinal (entries_in catalogue.now) }
     ensures answer { LengthTold catalogue.now ordinal result }
 {
@@ -85,7 +64,7 @@ pub fn find_length(catalogue: &[u8], ordinal: u32) -> Sized
 }
 
 // The line of the record with an ordinal among those of a kind, 1 to 5.
-pub fn find_line(catalogue: &[u8], kind: u8, ordinal: u32) -> Located
+pub fn find_line(catalogue: &[u8], kind: u8, ordinal: u32) -> Option<LineNo>
     ensures is { result ≡ line_in kind ordinal (entries_in catalogue.now) }
     ensures answer { LineTold catalogue.now kind ordinal result }
 {
@@ -94,7 +73,7 @@ pub fn find_line(catalogue: &[u8], kind: u8, ordinal: u32) -> Located
 }
 
 // The value in the field entry with a tag, among the entries from `from` on up to the next record's entry.
-pub fn field_from(catalogue: &[u8], from: usize, a: u8, b: u8) -> Found
+pub fn field_from(catalogue: &[u8], from: usize, a: u8, b: u8) -> Option<Place>
     ensures { result ≡ value_in a b (entries_in (drop from catalogue.now)) }
 {
     let mut at: usize = from;
@@ -102,22 +81,22 @@ pub fn field_from(catalogue: &[u8], from: usize, a: u8, b: u8) -> Found
         match catalogue_entries::entry_at(catalogue, at) {
             Entry::Field(x, y, p) => {
                 if x == a && y == b {
-                    return Found::At(p);
+                    return Some(p);
                 }
                 at += 11;
             }
-            _ => return Found::Nothing,
+            _ => return None,
         }
     }
 }
 
 // The value of a field of the record with an ordinal among those of a kind, 1 to 5.
-pub fn find_field(catalogue: &[u8], kind: u8, ordinal: u32, a: u8, b: u8) -> Found
+pub fn find_field(catalogue: &[u8], kind: u8, ordinal: u32, a: u8, b: u8) -> Option<Place>
     ensures is { result ≡ field_in kind ordinal a b (entries_in catalogue.now) }
     ensures answer { FieldTold catalogue.now kind ordinal a b result }
 {
     if 5 < kind {
-        return Found::Nothing;
+        return None;
     }
     let at = catalogue_kinds::find_record(catalogue, kind, ordinal as usize);
     let len = catalogue_entries::size(catalogue_entries::entry_at(catalogue, at));

@@ -40,9 +40,7 @@ fn put_sequence(out: &mut [u8], at: usize, name: Place, n: u64, line: u32)
     requires { at + 21 ≤ length out.old }
     ensures { out.new ≡ over out.old at (entry_bytes (Entry.ReferenceSequence name n line)) }
 {
-    let offset = name.at;
-    let len = name.len;
-    put_kind(out, at, format::REFERENCE_SEQUENCE, offset, len);
+    put_kind(out, at, format::REFERENCE_SEQUENCE, name.at, name.len);
     little_endian::put_u64(out, at + 9, n);
     little_endian::put_u32(out, at + 17, line);
 }
@@ -52,12 +50,10 @@ pub fn put_field(out: &mut [u8], at: usize, a: u8, b: u8, value: Place)
     requires { at + 11 ≤ length out.old }
     ensures { out.new ≡ over out.old at (entry_bytes (Entry.Field a b value)) }
 {
-    let offset = value.at;
-    let len = value.len;
     out[at] = 6;
     out[at + 1] = a;
     out[at + 2] = b;
-    put_numbers(out, at + 3, offset, len);
+    put_numbers(out, at + 3, value.at, value.len);
 }
 
 // Writes an entry at `at` and returns the place after it. `End` has no bytes.
@@ -67,30 +63,17 @@ pub fn put_entry(out: &mut [u8], at: usize, e: Entry) -> usize
     ensures wrote { out.new ≡ over out.old at (entry_bytes e) }
 {
     let next = at + catalogue_entries::size(e);
+    let kind = catalogue_entries::kind_of(e);
     match e {
         Entry::End => {}
         Entry::Header(v, line) => {
-            let major = v.major;
-            let minor = v.minor;
-            put_lined(out, at, 1, major, minor, line);
+            put_lined(out, at, 1, v.major, v.minor, line);
         }
         Entry::ReferenceSequence(p, n, line) => {
             put_sequence(out, at, p, n, line);
         }
-        Entry::ReadGroup(p, line) => {
-            let offset = p.at;
-            let len = p.len;
-            put_lined(out, at, format::READ_GROUP, offset, len, line);
-        }
-        Entry::Program(p, line) => {
-            let offset = p.at;
-            let len = p.len;
-            put_lined(out, at, format::PROGRAM, offset, len, line);
-        }
-        Entry::Comment(p, line) => {
-            let offset = p.at;
-            let len = p.len;
-            put_lined(out, at, 5, offset, len, line);
+        Entry::ReadGroup(p, line) | Entry::Program(p, line) | Entry::Comment(p, line) => {
+            put_lined(out, at, kind, p.at, p.len, line);
         }
         Entry::Field(a, b, p) => {
             put_field(out, at, a, b, p);

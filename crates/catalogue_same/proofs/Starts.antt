@@ -1,6 +1,6 @@
 -- Whether bytes start with a byte, with a number in bytes, and with one run and another after it.
 use Prim.Native.Nat.{ℕ, zero, suc, ◌+◌, ◌*◌, ◌/◌, ◌%◌, ◌^◌, ◌≤◌, ◌<◌}
-use mathlib.Core.Path.{◌≡◌, refl, sym, ap, ap₂, ◌∙◌}
+use mathlib.Core.Path.{◌≡◌, refl, sym, ap, ◌∙◌}
 use mathlib.Core.Bool.{Bool, true, false, ◌&&◌}
 use mathlib.Core.List.{List, [], ◌∷◌, ◌++◌}
 use native.Mathlib.Omega.{arith}
@@ -13,7 +13,6 @@ use borrow.Author.Tests.{eqb-true, eqb-false, eq-eqb, ne_eqb}
 use Rattle.format.specs.Bytes.{starts}
 use Rattle.format.specs.Catalogue.{little}
 use Rattle.format.specs.Little.{of_little}
-use Rattle.little_endian.proofs.Little.{little-length}
 use Rattle.lists.proofs.Bools.{never, and_right, split}
 
 and_assoc : (a b c : Bool) → a && (b && c) ≡ (a && b) && c

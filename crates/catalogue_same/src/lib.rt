@@ -46,9 +46,7 @@ fn has_sequence(s: &[u8], at: usize, name: Place, n: u64, line: u32) -> bool
     requires { at + 21 ≤ length s.now }
     ensures { result ≡ starts (entry_bytes (Entry.ReferenceSequence name n line)) (drop at s.now) }
 {
-    let offset = name.at;
-    let len = name.len;
-    if !has_kind(s, at, format::REFERENCE_SEQUENCE, offset, len) {
+    if !has_kind(s, at, format::REFERENCE_SEQUENCE, name.at, name.len) {
         return false;
     }
     if little_endian::get_u64(s, at + 9) != n {
@@ -71,9 +69,7 @@ fn has_field(s: &[u8], at: usize, a: u8, b: u8, value: Place) -> bool
     if s[at + 2] != b {
         return false;
     }
-    let offset = value.at;
-    let len = value.len;
-    has_numbers(s, at + 3, offset, len)
+    has_numbers(s, at + 3, value.at, value.len)
 }
 
 // Whether the catalogue has the entry of a field at `at`.
@@ -92,28 +88,13 @@ fn has_entry(s: &[u8], at: usize, e: Entry) -> bool
     requires { at + entry_size e ≤ length s.now }
     ensures { result ≡ starts (entry_bytes e) (drop at s.now) }
 {
+    let kind = catalogue_entries::kind_of(e);
     match e {
         Entry::End => true,
-        Entry::Header(v, line) => {
-            let major = v.major;
-            let minor = v.minor;
-            has_lined(s, at, 1, major, minor, line)
-        }
+        Entry::Header(v, line) => has_lined(s, at, 1, v.major, v.minor, line),
         Entry::ReferenceSequence(p, n, line) => has_sequence(s, at, p, n, line),
-        Entry::ReadGroup(p, line) => {
-            let offset = p.at;
-            let len = p.len;
-            has_lined(s, at, format::READ_GROUP, offset, len, line)
-        }
-        Entry::Program(p, line) => {
-            let offset = p.at;
-            let len = p.len;
-            has_lined(s, at, format::PROGRAM, offset, len, line)
-        }
-        Entry::Comment(p, line) => {
-            let offset = p.at;
-            let len = p.len;
-            has_lined(s, at, 5, offset, len, line)
+        Entry::ReadGroup(p, line) | Entry::Program(p, line) | Entry::Comment(p, line) => {
+            has_lined(s, at, kind, p.at, p.len, line)
         }
         Entry::Field(a, b, p) => has_field(s, at, a, b, p),
     }

@@ -13,9 +13,11 @@ use borrow.Author.Tests.{leb-true, le-leb, lt-leb, lt-ltb, le-ltb, ne_eqb}
 use Rattle.format.specs.Bytes.{digit, none?}
 use Rattle.format.specs.Decimal.{worth, worth_from}
 use Rattle.format.specs.Decimal.{span}
-use Rattle.decimal.specs.Number.{digits_number, number_at_front}
+use Rattle.decimal.specs.Number.{number_of, digits_number, number_at_front}
 use Rattle.decimal.specs.declared.Number.{Number}
-use Rattle.decimal.specs.declared.Number.TheVariants.{NoDigit, TooLarge, Is}
+use Rattle.decimal.specs.declared.NumberError.{NumberError}
+use Rattle.decimal.specs.declared.NumberError.TheVariants.{NoDigit, TooLarge}
+use Rattle.std.specs.Prelude.{Result, Ok, Err}
 
 -- ---- digits
 
@@ -56,11 +58,11 @@ worth-grows n (b ∷ ds) = omega (arith, worth-grows (n * 10 + (b - 48)) ds)
 -- ---- a number read so far
 
 -- a number `n` of `i` digits, read below `limit`
-unfoldable pub done : ℕ → ℕ → ℕ → Number
-done limit n i = cond (eqb i 0) NoDigit (cond (ltb n limit) (Is n i) TooLarge)
+unfoldable pub done : ℕ → ℕ → ℕ → Result Number NumberError
+done limit n i = cond (eqb i 0) (Err NoDigit) (cond (ltb n limit) (Ok (number_of n i)) (Err TooLarge))
 
 -- the same, once the digits at the front of `s` are read too
-unfoldable pub front_from : ℕ → ℕ → ℕ → List ℕ → Number
+unfoldable pub front_from : ℕ → ℕ → ℕ → List ℕ → Result Number NumberError
 unfolding done worth_from span
 front_from limit n i s = done limit (worth_from n (span s).0) (i + length (span s).0)
 
@@ -73,15 +75,15 @@ pub front-start : (limit : ℕ) (s : List ℕ) → number_at_front limit s ≡ f
 unfolding number_at_front front_from
 front-start limit s = counted-done limit (span s).0
 
-pub done_none : (limit n : ℕ) → done limit n 0 ≡ NoDigit
+pub done_none : (limit n : ℕ) → done limit n 0 ≡ Err NoDigit
 unfolding done
 done_none limit n = refl
 
-pub done-is : (limit n i : ℕ) → n < limit → 0 < i → done limit n i ≡ Is n i
+pub done-is : (limit n i : ℕ) → n < limit → 0 < i → done limit n i ≡ Ok (number_of n i)
 unfolding done
 done-is limit n i h p = rw (ne_eqb i 0 (λ e. omega arith), lt-ltb n limit h)
 
-pub done-large : (limit n i : ℕ) → limit ≤ n → 0 < i → done limit n i ≡ TooLarge
+pub done-large : (limit n i : ℕ) → limit ≤ n → 0 < i → done limit n i ≡ Err TooLarge
 unfolding done
 done-large limit n i h p = rw (ne_eqb i 0 (λ e. omega arith), le-ltb n limit h)
 
@@ -98,7 +100,7 @@ module _ (limit n i : ℕ) where
       rw (span-digit b s e, k)
 
   -- once too large, too large whatever follows
-  pub front-large : (s : List ℕ) → limit ≤ n → 0 < i → front_from limit n i s ≡ TooLarge
+  pub front-large : (s : List ℕ) → limit ≤ n → 0 < i → front_from limit n i s ≡ Err TooLarge
   unfolding front_from
   front-large s h p =
       let w : n ≤ worth_from n (span s).0 = worth-grows n (span s).0 in
@@ -118,5 +120,5 @@ module _ (limit : ℕ) (s : List ℕ) (n i : ℕ) where
       → front_from limit n i (drop i s) ≡ front_from limit (n * 10 + (get_or s i 0 - 48)) (i + 1) (drop (i + 1) s)
   turn h e = rw (drop-cons s i 0 h, ← add-one i) (front-digit limit n i _ _ e)
 
-  pub turn-large : i < length s → digit (get_or s i 0) ≡ true → limit ≤ n * 10 + (get_or s i 0 - 48) → front_from limit n i (drop i s) ≡ TooLarge
+  pub turn-large : i < length s → digit (get_or s i 0) ≡ true → limit ≤ n * 10 + (get_or s i 0 - 48) → front_from limit n i (drop i s) ≡ Err TooLarge
   turn-large h e k = turn h e ∙ front-large limit _ (i + 1) _ k (omega arith)

@@ -4,7 +4,7 @@ use mathlib.Core.Path.{◌≡◌, refl, sym, ap, ◌∙◌}
 use mathlib.Core.Bool.{true, false}
 use mathlib.Core.List.{List, [], ◌∷◌, ◌++◌}
 use mathlib.Core.Logic.{⊎_elim}
-use mathlib.Core.Option.{none, some}
+use mathlib.Core.Option.{some}
 use native.Mathlib.Omega.{arith}
 use native.Mathlib.Nat.{pow-succ', mul-le-mul_right, mul_assoc}
 use lib.ListN.{length}
@@ -12,8 +12,8 @@ use borrow.Author.Tests.{lt-ltb}
 use Rattle.format.specs.Bytes.{digit, all, none?}
 use Rattle.format.specs.Decimal.{worth, worth_from, digits, number, written}
 use Rattle.format.specs.Decimal.{span}
-use Rattle.decimal.specs.Number.{number_at_front}
-use Rattle.decimal.specs.declared.Number.TheVariants.{Is}
+use Rattle.decimal.specs.Number.{number_of, number_at_front}
+use Rattle.std.specs.Prelude.{Ok}
 use Rattle.decimal.proofs.Front.{both, digit-yes, digit-top, span-digit}
 use Rattle.decimal.proofs.Written.{one-digit, written_one, written_step, written-some, written-fits}
 
@@ -81,7 +81,7 @@ span-append (b ∷ ds) rest e h =
     span-digit b (ds ++ rest) t.0 ∙ ap (λ l. b ∷ l) (span-append ds rest t.1 h)
 
 pub front-back : (limit n : ℕ) (rest : List ℕ) → n < limit → limit ≤ 10 ^ 20 → (span rest).0 ≡ []
-    → number_at_front limit (written n ++ rest) ≡ Is n (length (written n))
+    → number_at_front limit (written n ++ rest) ≡ Ok (number_of n (length (written n)))
 unfolding number_at_front
 front-back limit n rest h k e =
     rw (span-append (written n) rest (spells n n (omega arith) (omega arith)).digit-all e)

@@ -9,8 +9,9 @@ use lib.Dec.{eqb, ltb}
 use Rattle.format.specs.Bytes.{none?}
 use Rattle.format.specs.Decimal.{worth, span}
 use Rattle.format.specs.Fields.{JudgedPiece, refused_piece, length_field}
-use Rattle.decimal.specs.Number.{digits_number, number_at_front, number_refusal, NumberTold}
-use Rattle.decimal.specs.declared.Number.TheVariants.{NoDigit, TooLarge, Is}
+use Rattle.decimal.specs.Number.{number_of, digits_number, number_at_front, number_refusal, NumberTold}
+use Rattle.decimal.specs.declared.NumberError.TheVariants.{NoDigit, TooLarge}
+use Rattle.std.specs.Prelude.{Ok, Err}
 
 pub length-refused : (v : List ℕ) → NumberTold v (number_at_front (2 ^ 64) v)
 unfolding number_refusal digits_number number_at_front length_field
@@ -22,7 +23,7 @@ length-refused v at n e = go (none? (span v).0) (ltb (worth (span v).0) (2 ^ 64)
     judge false true j e = absurd (omega (arith, e))
     judge false false j e = ap refused_piece e
 
-    go : (a b : Bool) (w l : ℕ) (j : JudgedPiece) → number_refusal (cond a NoDigit (cond b (Is w l) TooLarge)) ≡ suc n
+    go : (a b : Bool) (w l : ℕ) (j : JudgedPiece) → number_refusal (cond a (Err NoDigit) (cond b (Ok (number_of w l)) (Err TooLarge))) ≡ suc n
         → cond (a || not b) (refused_piece 12) (cond (eqb w 0) (refused_piece 13) (cond (not (ltb w (2 ^ 31))) (refused_piece 27) j)) ≡ refused_piece (suc n)
     go true b w l j e = ap refused_piece e
     go false true w l j e = judge (eqb w 0) (ltb w (2 ^ 31)) j e

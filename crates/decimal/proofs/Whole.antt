@@ -1,5 +1,5 @@
 -- A number at the front of a slice, and a number that is a whole slice. Assumes nothing.
-use Prim.Native.Nat.{ℕ, suc, ◌-◌, ◌≤◌, ◌<◌}
+use Prim.Native.Nat.{ℕ, suc, ◌≤◌, ◌<◌}
 use mathlib.Core.Path.{◌≡◌, refl, sym, ap, ◌∙◌}
 use mathlib.Core.Bool.{Bool, true, false, not, ◌&&◌, cond, and-true, and-false}
 use mathlib.Core.List.{List, [], ◌∷◌}
@@ -11,9 +11,11 @@ use borrow.Author.Tests.{eq-eqb, ne_eqb, ltb-true}
 use Rattle.format.specs.Bytes.{digit, all, none?}
 use Rattle.format.specs.Decimal.{worth, digits, number}
 use Rattle.format.specs.Decimal.{span}
-use Rattle.decimal.specs.Number.{digits_number, number_at_front}
+use Rattle.decimal.specs.Number.{number_of, digits_number, number_at_front}
 use Rattle.decimal.specs.declared.Number.{Number}
-use Rattle.decimal.specs.declared.Number.TheVariants.{NoDigit, TooLarge, Is}
+use Rattle.decimal.specs.declared.NumberError.{NumberError}
+use Rattle.decimal.specs.declared.NumberError.TheVariants.{TooLarge}
+use Rattle.std.specs.Prelude.{Result, Ok, Err}
 use Rattle.decimal.proofs.Front.{both, span-digit}
 
 -- ---- the digits at the front
@@ -52,19 +54,20 @@ pub record Within (limit k v n : ℕ) : Type 0 where
   pub some-digit : 0 < n
   pub inside : n ≤ k
 
-counted-within : (limit v n : ℕ) (ds : List ℕ) → digits_number limit ds ≡ Is v n → Within limit (length ds) v n
+counted-within : (limit v n : ℕ) (ds : List ℕ) → digits_number limit ds ≡ Ok (number_of v n) → Within limit (length ds) v n
 unfolding digits_number
 counted-within limit v n [] e = absurd (let z : ◌≡◌ {A = ℕ} 0 1 = cc in omega arith)
 counted-within limit v n (b ∷ ds) e = go (ltb (worth (b ∷ ds)) limit) refl e
   where
-    go : (t : Bool) → ltb (worth (b ∷ ds)) limit ≡ t → cond t (Is (worth (b ∷ ds)) (suc (length ds))) TooLarge ≡ Is v n → Within limit (suc (length ds)) v n
+    go : (t : Bool) → ltb (worth (b ∷ ds)) limit ≡ t → cond t (Ok (number_of (worth (b ∷ ds)) (suc (length ds)))) (Err TooLarge) ≡ Ok (number_of v n) → Within limit (suc (length ds)) v n
     go true k e =
-        let p : worth (b ∷ ds) ≡ v = cc in
-        let q : suc (length ds) ≡ n = cc in
+        let i : number_of (worth (b ∷ ds)) (suc (length ds)) ≡ number_of v n = cc in
+        let p : worth (b ∷ ds) ≡ v = ap (λ m. m.value) i in
+        let q : suc (length ds) ≡ n = ap (λ m. m.len) i in
         record { below = omega (arith, ltb-true (worth (b ∷ ds)) limit k); some-digit = omega arith; inside = omega arith }
     go false k e = absurd (let z : ◌≡◌ {A = ℕ} 0 1 = cc in omega arith)
 
-pub front-within : (limit v n : ℕ) (s : List ℕ) → number_at_front limit s ≡ Is v n → Within limit (length s) v n
+pub front-within : (limit v n : ℕ) (s : List ℕ) → number_at_front limit s ≡ Ok (number_of v n) → Within limit (length s) v n
 unfolding number_at_front
 front-within limit v n s e =
     let w : Within limit (length (span s).0) v n = counted-within limit v n (span s).0 e in
@@ -73,10 +76,9 @@ front-within limit v n s e =
 -- ---- a whole slice
 
 -- the number at the front of `k` bytes, if it has them all
-unfoldable pub whole : ℕ → Number → Option ℕ
-whole k NoDigit = none
-whole k TooLarge = none
-whole k (Is v n) = cond (eqb n k) (some v) none
+unfoldable pub whole : ℕ → Result Number NumberError → Option ℕ
+whole k (Err e) = none
+whole k (Ok n) = cond (eqb n.len k) (some n.value) none
 
 -- a run of digits that is all there is
 whole-all : (limit : ℕ) (ds : List ℕ) → whole (length ds) (digits_number limit ds) ≡ cond (not (none? ds) && ltb (worth ds) limit) (some (worth ds)) none
@@ -84,7 +86,7 @@ unfolding digits_number whole none?
 whole-all limit [] = refl
 whole-all limit (b ∷ ds) = go (ltb (worth (b ∷ ds)) limit)
   where
-    go : (t : Bool) → whole (suc (length ds)) (cond t (Is (worth (b ∷ ds)) (suc (length ds))) TooLarge) ≡ cond t (some (worth (b ∷ ds))) none
+    go : (t : Bool) → whole (suc (length ds)) (cond t (Ok (number_of (worth (b ∷ ds)) (suc (length ds)))) (Err TooLarge)) ≡ cond t (some (worth (b ∷ ds))) none
     go true = rw (eq-eqb (suc (length ds)) (suc (length ds)) refl)
     go false = refl
 
@@ -94,7 +96,7 @@ unfolding digits_number whole none?
 whole-short limit k [] h = refl
 whole-short limit k (b ∷ ds) h = go (ltb (worth (b ∷ ds)) limit)
   where
-    go : (t : Bool) → whole k (cond t (Is (worth (b ∷ ds)) (suc (length ds))) TooLarge) ≡ none
+    go : (t : Bool) → whole k (cond t (Ok (number_of (worth (b ∷ ds)) (suc (length ds)))) (Err TooLarge)) ≡ none
     go true = rw (ne_eqb (suc (length ds)) k (λ e. omega arith))
     go false = refl
 

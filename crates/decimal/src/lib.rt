@@ -6,57 +6,59 @@ ghost use Rattle.format.specs.Decimal.{written};
 ghost use Rattle.byte_slices.specs.Over.{over};
 ghost use Rattle.decimal.specs.Number.{number_at_front, NumberTold};
 
-// What is at the front of a slice: the value of the number and how many digits it has.
-#[derive(Clone, Copy)]
-pub enum Number {
+// A number at the front of a slice: its value and how many digits it has.
+#[derive(Clone, Copy, Debug, PartialEq, Eq)]
+pub struct Number {
+    pub value: u64,
+    pub len: usize,
+}
+
+// Why there is no number at the front of a slice.
+#[derive(Clone, Copy, Debug, PartialEq, Eq)]
+pub enum NumberError {
     NoDigit,
     TooLarge,
-    Is(u64, usize),
 }
 
 // Reads the digits at the front of `s` as a number of at most `max`. Leading zeros are allowed; a sign is not a digit.
-pub fn read_up_to(s: &[u8], max: u64) -> Number
+pub fn read_up_to(s: &[u8], max: u64) -> Result<Number, NumberError>
     ensures { result ≡ number_at_front (suc max) s.now }
 {
     let tenth = max / 10;
-    let mut n: u64 = 0;
-    let mut i: usize = 0;
-    while i < s.len() {
-        let b = s[i];
-        if b < b'0' {
+    let mut value: u64 = 0;
+    let mut len: usize = 0;
+    for b in s {
+        if !b.is_ascii_digit() {
             break;
         }
-        if b'9' < b {
-            break;
+        let digit = (*b - b'0') as u64;
+        if tenth < value {
+            return Err(NumberError::TooLarge);
         }
-        let d = (b - b'0') as u64;
-        if tenth < n {
-            return Number::TooLarge;
+        let tens = value * 10;
+        if max - tens < digit {
+            return Err(NumberError::TooLarge);
         }
-        let tens = n * 10;
-        if max - tens < d {
-            return Number::TooLarge;
-        }
-        n = tens + d;
-        i += 1;
+        value = tens + digit;
+        len += 1;
     }
-    if i == 0 {
-        return Number::NoDigit;
+    if len == 0 {
+        return Err(NumberError::NoDigit);
     }
-    Number::Is(n, i)
+    Ok(Number { value, len })
 }
 
-pub fn read_u32(s: &[u8]) -> Number
+pub fn read_u32(s: &[u8]) -> Result<Number, NumberError>
     ensures { result ≡ number_at_front (2 ^ 32) s.now }
 {
-    read_up_to(s, 4294967295)
+    read_up_to(s, u32::MAX as u64)
 }
 
-pub fn read_u64(s: &[u8]) -> Number
+pub fn read_u64(s: &[u8]) -> Result<Number, NumberError>
     ensures is { result ≡ number_at_front (2 ^ 64) s.now }
     ensures refusal { NumberTold s.now result }
 {
-    read_up_to(s, 18446744073709551615)
+    read_up_to(s, u64::MAX)
 }
 
 // How many digits `v` has.
@@ -66,7 +68,7 @@ pub fn len_u64(v: u64) -> usize
     let mut rest = v;
     let mut n: usize = 1;
     while 10 <= rest {
-        rest = rest / 10;
+        rest /= 10;
         n += 1;
     }
     n
@@ -80,11 +82,9 @@ pub fn write_u64(out: &mut [u8], at: usize, v: u64) -> usize
 {
     let n = len_u64(v);
     let mut rest = v;
-    let mut i = n;
-    while 0 < i {
-        i -= 1;
+    for i in (0..n).rev() {
         out[at + i] = (rest % 10) as u8 + b'0';
-        rest = rest / 10;
+        rest /= 10;
     }
     at + n
 }

@@ -1,17 +1,16 @@
 -- A walk from parent to parent over numbers of parents, and what it says of a program.
 use Prim.Native.Nat.{ℕ, zero, suc, ◌+◌, ◌-◌, ◌≤◌, ◌<◌}
-use mathlib.Core.Path.{◌≡◌, refl, sym, ap, ap₂, ◌∙◌}
+use mathlib.Core.Path.{◌≡◌, refl, ap, ap₂, ◌∙◌}
 use mathlib.Core.Bool.{Bool, true, false, ◌||◌, cond}
 use mathlib.Core.List.{List, [], ◌∷◌, map}
 use native.Mathlib.Omega.{arith}
-use native.Mathlib.Numerals.{add-one}
 use lib.ListN.{length, get_or, length-map}
 use lib.Dec.{eqb, ltb}
 use borrow.Author.Tests.{eq-eqb, ne_eqb, lt-ltb, le-ltb}
-use Rattle.format.specs.Programs.{Program, Link, root, dangling, child, is_dangling, reaches, links, programs}
+use Rattle.format.specs.Programs.{Link, root, dangling, child, is_dangling, reaches}
 use Rattle.byte_slices.specs.Stands.{Each}
 use Rattle.lists.proofs.Pairs.{each_at}
-use Rattle.program_chains.proofs.Walks.{map_at, reaches-root, reaches-none}
+use Rattle.program_chains.proofs.Walks.{map_at}
 use Rattle.program_chains.proofs.Paths.{Below}
 use Rattle.program_parents.specs.Parents.{link_number}
 use Rattle.fault_programs.specs.Plain.{one_if}

@@ -18,7 +18,6 @@ use Rattle.byte_slices.specs.Over.{over}
 use Rattle.byte_slices.proofs.Over.{over-over}
 use Rattle.tidy_line.specs.Line.{line_writable}
 use Rattle.format.specs.Carrying.{kept_of, Skip, rows}
-use Rattle.carry_laws.proofs.Count.{rows-length}
 use Rattle.carry_lines.specs.Going.{Going, judged_lines}
 use Rattle.carry_lines.specs.declared.Cursor.{Cursor}
 use Rattle.carry_passes.specs.NextLine.{lent_to, Turn}

@@ -23,8 +23,7 @@ fn link_fault(parents: &[u32], i: usize) -> u8
     if at == program_parents::STRANGER {
         return 22;
     }
-    let mut left: usize = parents.len();
-    while 0 < left {
+    for _ in 0..parents.len() {
         if program_parents::STRANGER <= at {
             return 0;
         }
@@ -33,7 +32,6 @@ fn link_fault(parents: &[u32], i: usize) -> u8
             return 23;
         }
         at = parents[k];
-        left -= 1;
     }
     0
 }
@@ -45,10 +43,8 @@ pub fn count_links(parents: &[u32]) -> usize
     ensures { result ≡ link_count (links_in parents.now) 0 (length parents.now) }
 {
     let mut n: usize = 0;
-    let mut i: usize = 0;
-    while i < parents.len() {
+    for i in 0..parents.len() {
         n += fault_programs::one_if(link_fault(parents, i));
-        i += 1;
     }
     n
 }

@@ -37,7 +37,7 @@ use Rattle.program_lines.proofs.Same.{id_place, record_notes, line-notes}
 use Rattle.program_parents.specs.Placed.{Before, Says, PlacesOf}
 use Rattle.read_judge.proofs.Judging.{pairs-snoc}
 use Rattle.tidy_line.specs.Line.{line_writable, line_text, line_size}
-use Rattle.tidy_line.specs.declared.Size.TheVariants.{Unwritable, Is}
+use Rattle.std.specs.Prelude.{Some, None}
 use Rattle.format.specs.Carrying.{kept_of}
 use Rattle.carry_laws.proofs.Judged.{kept_append}
 use Rattle.carry_lines.specs.Going.{Going, judged_lines}
@@ -53,19 +53,19 @@ unfolding plain_at
 plain-skipped zero l h = absurd (h refl)
 plain-skipped (suc n) l h = refl
 
-pub plain-bad : (n : ℕ) (l : Line) → n ≡ 0 → line_size l ≡ Unwritable → plain_at n l ≡ 24
+pub plain-bad : (n : ℕ) (l : Line) → n ≡ 0 → line_size l ≡ None → plain_at n l ≡ 24
 unfolding plain_at line_size
 plain-bad n l z e = ap (λ k. plain_at k l) z ∙ go (line_writable l) e
   where
-    go : (b : Bool) → cond b (Is (length (line_text l))) Unwritable ≡ Unwritable → cond {A = ℕ} b 0 24 ≡ 24
+    go : (b : Bool) → cond b (Some (length (line_text l))) None ≡ None → cond {A = ℕ} b 0 24 ≡ 24
     go true e = absurd (never cc)
     go false e = refl
 
-pub plain-good : (n : ℕ) (l : Line) (k : ℕ) → n ≡ 0 → line_size l ≡ Is k → plain_at n l ≡ 0
+pub plain-good : (n : ℕ) (l : Line) (k : ℕ) → n ≡ 0 → line_size l ≡ Some k → plain_at n l ≡ 0
 unfolding plain_at line_size
 plain-good n l k z e = ap (λ k. plain_at k l) z ∙ go (line_writable l) e
   where
-    go : (b : Bool) → cond b (Is (length (line_text l))) Unwritable ≡ Is k → cond {A = ℕ} b 0 24 ≡ 0
+    go : (b : Bool) → cond b (Some (length (line_text l))) None ≡ Some k → cond {A = ℕ} b 0 24 ≡ 0
     go true e = refl
     go false e = absurd (never cc)
 

@@ -15,7 +15,6 @@ ghost use Rattle.program_parents.specs.Placed.{PlacesOf};
 use carry_early::Begin;
 use carry_lines::Cursor;
 use program_places::{Places, Programs};
-use tidy_line::Size;
 
 // 0, or why a line is faulty for a reason that does not depend on parents. `n` is its refusal if it is skipped, and 0 if it is kept.
 pub fn plain_fault(src: &[u8], at: usize, strict: bool, n: u8) -> u8
@@ -27,8 +26,8 @@ pub fn plain_fault(src: &[u8], at: usize, strict: bool, n: u8) -> u8
         return n;
     }
     match tidy_line::line_size(src, at, strict) {
-        Size::Unwritable => 24,
-        Size::Is(_) => 0,
+        None => 24,
+        Some(_) => 0,
     }
 }
 

@@ -10,7 +10,8 @@ use Rattle.format.specs.Records.{Line, refused_line, read}
 use Rattle.format.specs.Reading.{longest, of_kind}
 use Rattle.format.specs.Programs.{Link, links, programs, program_of}
 use Rattle.format.specs.Calls.{Answer, refused, yes, fitting}
-use Rattle.format.specs.declared.LineNo.{LineNo}
+use Rattle.std.specs.Prelude.{Ok, Err}
+use Rattle.format.specs.declared.Refusal.{Refusal}
 use Rattle.byte_slices.specs.Over.{over}
 use Rattle.byte_slices.specs.Stands.{Each}
 use Rattle.accepted.proofs.Onward.{lines-count}
@@ -19,7 +20,6 @@ use Rattle.program_chains.specs.Parents.{in_array}
 use Rattle.program_chains.proofs.Arrays.{front, front-inside}
 use Rattle.program_chains.proofs.Paths.{Below}
 use Rattle.read.specs.Answers.{output_of}
-use Rattle.read.specs.declared.CountAnswer.TheVariants.{Refused, Count}
 use Rattle.read.proofs.AnswerCases.{written-answer}
 use Rattle.program_parents.specs.Parents.{link_number}
 use Rattle.program_parents.proofs.Numbers.{numbers, numbers-count, links-count, link-below}
@@ -61,13 +61,13 @@ module _ (t : List ℕ) (table : ℕ) where
     told-fits s = rw (le-ltb 16777216 (length t) h, le-ltb table (length found) s) refl
 
 module _ (a : Answer (List ℕ)) (table : List ℕ) where
-  pub refused_all : (n : ℕ) (l : LineNo) → a ≡ refused n l.0 → (Refused n l ≡ faulty_lines a) × (table ≡ output_of a table)
+  pub refused_all : (r : Refusal) → a ≡ refused r.number r.line.0 → (Err r ≡ faulty_lines a) × (table ≡ output_of a table)
   unfolding faulty_lines output_of
-  refused_all n l e = (sym (ap faulty_lines e), sym (ap (λ x. output_of x table) e))
+  refused_all r e = (sym (ap faulty_lines e), sym (ap (λ x. output_of x table) e))
 
-  pub written_all : (xs table' : List ℕ) (n : ℕ) → a ≡ yes xs → n ≡ length xs / 2 → table' ≡ over table 0 xs → (Count n ≡ faulty_lines a) × (table' ≡ output_of a table)
+  pub written_all : (xs table' : List ℕ) (n : ℕ) → a ≡ yes xs → n ≡ length xs / 2 → table' ≡ over table 0 xs → (Ok n ≡ faulty_lines a) × (table' ≡ output_of a table)
   unfolding faulty_lines
-  written_all xs table' n e p w = (ap Count p ∙ sym (ap faulty_lines e), (written-answer a table xs table' (length xs) e refl w).1)
+  written_all xs table' n e p w = (ap Ok p ∙ sym (ap faulty_lines e), (written-answer a table xs table' (length xs) e refl w).1)
 
 -- ---- counts are small
 

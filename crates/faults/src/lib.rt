@@ -9,7 +9,7 @@ ghost use Rattle.faults.specs.Answers.{IsLinks, faulty_lines};
 
 use carry_early::Begin;
 use fault_programs::KeptLinks;
-use format::LineNo;
+use format::Refusal;
 use read::CountAnswer;
 
 // Once the programs are linked: refuses with 20 if the table is too short, or writes the rows.
@@ -31,12 +31,12 @@ fn write_faults(
     let count = links.count;
     let lines = b.line as usize + (links.plain + fault_lines::count_links(&parents[..count]));
     if table.len() < lines * 2 {
-        return CountAnswer::Refused(20, LineNo(0));
+        return Err(Refusal::of_text(20));
     }
     carry_early::put_early(text, b.line, table);
     let mut ids = [0u32; 2048];
     fault_lines::put_lines(text, b, area, &mut ids, &parents[..count], table);
-    CountAnswer::Count(lines)
+    Ok(lines)
 }
 
 // The faults of a text that is not too long, with lent slots for the keys of a block of lines.
@@ -83,10 +83,8 @@ fn faults_long(text: &[u8], b: Begin, table: &mut [u32], more: usize) -> CountAn
     let mut area = [0u32; read_judge::LONG_SLOTS];
     let links = fault_programs::link_kept(text, b, &mut area);
     if 0 < more {
-        return match faults_long(text, b, table, more - 1) {
-            CountAnswer::Refused(n, line) => CountAnswer::Refused(n, line),
-            CountAnswer::Count(lines) => CountAnswer::Count(lines),
-        };
+        let lines = faults_long(text, b, table, more - 1)?;
+        return Ok(lines);
     }
     write_faults(text, b, &mut area, links, table)
 }
@@ -114,7 +112,7 @@ pub fn faults(text: &[u8], table: &mut [u32]) -> CountAnswer
     ensures listed { table.new ≡ output_of (faulting text.now (length table.old)) table.old }
 {
     if format::LONGEST < text.len() {
-        return CountAnswer::Refused(1, LineNo(0));
+        return Err(Refusal::of_text(1));
     }
     faults_by_length(text, table)
 }

@@ -5,6 +5,7 @@ use mathlib.Core.Bool.{Bool, true, false, not, cond, false≢true}
 use mathlib.Core.List.{List, [], ◌∷◌}
 use mathlib.Core.Logic.{◌⊎◌, inl, inr}
 use mathlib.Core.Option.{Option, none, some}
+use Rattle.std.specs.Prelude.{Ok, Err}
 use native.Mathlib.Omega.{arith}
 use lib.Dec.{eqb, ltb}
 use lib.ListN.{length}
@@ -21,13 +22,15 @@ use Rattle.format.specs.declared.Kind.TheVariants.{Header, ReferenceSequence}
 use Rattle.byte_slices.specs.Upto.{before}
 use Rattle.field_tag.specs.Numbers.{is_version, is_length}
 use Rattle.field.proofs.value.Taken.{some-value, none_allowed}
-use Rattle.field.specs.Parsed.{parsed_of, field_numbers}
+use Rattle.field.specs.declared.ParsedField.{ParsedField}
+use Rattle.field.specs.Parsed.{kept_by, parsed_of, field_numbers}
 use Rattle.field.proofs.Judged.{judged-length, judged-version, judged-plain}
 use Rattle.field.proofs.Next.{then-onward}
 
--- an accepted field is not answered as a refusal, has a value of at least one byte, and LN of SQ is at least 1
+-- an accepted field has an answer that is no refusal, has a value of at least one byte, and LN of SQ is at least 1
 pub record Told (k : Kind) (f : Field) : Type 0 where
-  pub stop : (field_numbers k f).stop ≡ 0
+  pub parsed : ParsedField
+  pub answer : field_numbers k f ≡ Ok parsed
   pub some : length f.value.bytes ≡ 0 → ⊥
   pub sized : is_length k f.tag₀ f.tag₁ ≡ true → worth f.value.bytes ≡ 0 → ⊥
 
@@ -45,7 +48,7 @@ plain-sound k a b at v e d = go (allows k a b v) refl
     f = record { tag₀ = a; tag₁ = b; value = record { at = at; bytes = v } }
 
     go : (t : Bool) → allows k a b v ≡ t → Sound k (cond t (good f) (refused_piece 10))
-    go true q = record { stop = rw (e, d) refl; some = some-value (allows k a b) (none_allowed k a b) v q; sized = λ l. absurd (false≢true (sym e ∙ l)) }
+    go true q = record { parsed = kept_by a b (length v); answer = rw (e, d) refl; some = some-value (allows k a b) (none_allowed k a b) v q; sized = λ l. absurd (false≢true (sym e ∙ l)) }
     go false q = λ z. omega arith
 
 version-sound : (at : ℕ) (v : List ℕ) → Sound Header (version_field at v)
@@ -57,7 +60,7 @@ version-sound at v = go (is_value v) refl (version v) refl
 
     go : (t : Bool) → is_value v ≡ t → (o : Option Version) → version v ≡ o → Sound Header (cond t (spelled o (cond t (good f) (refused_piece 10))) (refused_piece 10))
     go true q none k = λ z. omega arith
-    go true q (some w) k = record { stop = rw k refl; some = some-value is_value refl v q; sized = λ l. absurd (false≢true l) }
+    go true q (some w) k = record { parsed = record { tag_0 = 86; tag_1 = 78; len = length v; major = w.major; minor = w.minor; length = 0 }; answer = rw k refl; some = some-value is_value refl v q; sized = λ l. absurd (false≢true l) }
     go false q o k = λ z. omega arith
 
 length-sound : (at : ℕ) (ds more : List ℕ) → Sound ReferenceSequence (length_field at (ds, more))
@@ -70,7 +73,7 @@ length-sound at (b ∷ ds) more =
     f = record { tag₀ = 76; tag₁ = 78; value = record { at = at; bytes = b ∷ ds } }
 
     told : eqb (worth (b ∷ ds)) 0 ≡ false → Told ReferenceSequence f
-    told e = record { stop = refl; some = λ z. omega arith; sized = λ l. eqb-false (worth (b ∷ ds)) 0 e }
+    told e = record { parsed = _; answer = refl; some = λ z. omega arith; sized = λ l. eqb-false (worth (b ∷ ds)) 0 e }
 
     go : (t u : Bool) → eqb (worth (b ∷ ds)) 0 ≡ u → (v w : Bool)
         → Sound ReferenceSequence (cond t (refused_piece 12) (cond u (refused_piece 13) (cond v (refused_piece 27) (cond w (good f) (good_then f 6)))))
@@ -108,14 +111,24 @@ field-sound k at (a ∷ b ∷ c ∷ v) = go (is_tag a b) (eqb c 58)
 
 -- ---- what an answer says
 
-pub parsed-bad : (k : Kind) (at : ℕ) (p : List ℕ) → ((parsed_of k (field k at p)).stop ≡ 0 → ⊥) → field k at p ≡ refused_piece (parsed_of k (field k at p)).stop
+pub parsed-bad : (k : Kind) (at n : ℕ) (p : List ℕ) → parsed_of k (field k at p) ≡ Err n → field k at p ≡ refused_piece n
 unfolding Sound parsed_of
-parsed-bad k at p n = go (field k at p) (field-sound k at p) n
+parsed-bad k at n p e = go (field k at p) (field-sound k at p) e
   where
-    go : (j : JudgedPiece) → Sound k j → ((parsed_of k j).stop ≡ 0 → ⊥) → j ≡ refused_piece (parsed_of k j).stop
-    go (refused_piece m) h n = refl
-    go (good f) h n = absurd (n h.stop)
-    go (good_then f m) h n = absurd (n h.stop)
+    go : (j : JudgedPiece) → Sound k j → parsed_of k j ≡ Err n → j ≡ refused_piece n
+    go (refused_piece m) h e = cc
+    go (good f) h e = cc (h.answer)
+    go (good_then f m) h e = cc (h.answer)
+
+-- a refusal that is answered has a number
+pub parsed-numbered : (k : Kind) (at n : ℕ) (p : List ℕ) → parsed_of k (field k at p) ≡ Err n → n ≡ 0 → ⊥
+unfolding Sound parsed_of
+parsed-numbered k at n p e z = go (field k at p) (field-sound k at p) e
+  where
+    go : (j : JudgedPiece) → Sound k j → parsed_of k j ≡ Err n → ⊥
+    go (refused_piece m) h e = let q : m ≡ n = cc in h (q ∙ z)
+    go (good f) h e = absurd (let z : ◌≡◌ {A = ℕ} 0 1 = cc (h.answer) in omega arith)
+    go (good_then f m) h e = absurd (let z : ◌≡◌ {A = ℕ} 0 1 = cc (h.answer) in omega arith)
 
 -- the field that was accepted, whose piece is used up or goes on
 pub record Found (k : Kind) (at : ℕ) (s : List ℕ) : Type 0 where
@@ -123,11 +136,11 @@ pub record Found (k : Kind) (at : ℕ) (s : List ℕ) : Type 0 where
   pub told : Told k field
   pub judged : (fields.field k at (before 9 s) ≡ good field) ⊎ (fields.field k at (before 9 s) ≡ good_then field 6)
 
-pub parsed-found : (k : Kind) (at : ℕ) (s : List ℕ) → (parsed_of k (field k at (before 9 s))).stop ≡ 0 → Found k at s
+pub parsed-found : (k : Kind) (at : ℕ) (s : List ℕ) (g : ParsedField) → parsed_of k (field k at (before 9 s)) ≡ Ok g → Found k at s
 unfolding Sound parsed_of
-parsed-found k at s z = go (field k at (before 9 s)) refl (field-sound k at (before 9 s)) z
+parsed-found k at s g z = go (field k at (before 9 s)) refl (field-sound k at (before 9 s)) z
   where
-    go : (j : JudgedPiece) → field k at (before 9 s) ≡ j → Sound k j → (parsed_of k j).stop ≡ 0 → Found k at s
-    go (refused_piece m) e h z = absurd (h z)
+    go : (j : JudgedPiece) → field k at (before 9 s) ≡ j → Sound k j → parsed_of k j ≡ Ok g → Found k at s
+    go (refused_piece m) e h z = cc
     go (good f) e h z = record { field = f; told = h; judged = inl e }
     go (good_then f n) e h z = record { field = f; told = h; judged = inr (e ∙ ap (good_then f) (then-onward k at s f n e).1) }

@@ -4,6 +4,7 @@ use mathlib.Core.Path.{◌≡◌, refl, sym, ap, ◌∙◌}
 use mathlib.Core.Bool.{Bool, true, false, ◌||◌, not, cond, false≢true}
 use mathlib.Core.List.{List}
 use mathlib.Core.Option.{Option, none, some}
+use Rattle.std.specs.Prelude.{Ok, Err}
 use lib.ListN.{length}
 use lib.Dec.{eqb, ltb}
 use Rattle.format.specs.Bytes.{none?}
@@ -18,7 +19,7 @@ use Rattle.field_tag.specs.Numbers.{is_version, is_length}
 use Rattle.field.specs.Taken.{taken_of}
 use Rattle.field.proofs.value.Taken.{a-value, no_value_lem, none_allowed}
 use Rattle.field_length.specs.Parsed.{parsed_length_of}
-use Rattle.field.specs.Parsed.{refused_by, kept_by, versioned_by, length_field_by, parsed_of, field_numbers}
+use Rattle.field.specs.Parsed.{kept_by, versioned_by, length_field_by, parsed_of, field_numbers}
 
 -- in HD no value is in UTF-8
 pub header-value : (k : Kind) (a b : ℕ) (v : List ℕ) → k ≡ Header → is_value v ≡ allows k a b v
@@ -82,14 +83,14 @@ module _ (a b at : ℕ) (v : List ℕ) where
       let j = judged-length k e in
       ap (parsed_of k) j.1 ∙ ap (λ l. parsed_of l (length_field at (span v))) j.0 ∙ length-anywhere at (span v).0 (span v).1
 
-  pub value_none : (k : Kind) → is_length k a b ≡ false → taken_of (allows k a b) v ≡ 0 → parsed_of k (value_field k a b at v) ≡ refused_by 10
+  pub value_none : (k : Kind) → is_length k a b ≡ false → taken_of (allows k a b) v ≡ 0 → parsed_of k (value_field k a b at v) ≡ Err 10
   unfolding parsed_of plain version_field
   value_none k e z = go (is_version k a b) refl
     where
       n : allows k a b v ≡ false
       n = no_value_lem (allows k a b) (none_allowed k a b) v z
 
-      go : (t : Bool) → is_version k a b ≡ t → parsed_of k (value_field k a b at v) ≡ refused_by 10
+      go : (t : Bool) → is_version k a b ≡ t → parsed_of k (value_field k a b at v) ≡ Err 10
       go true d = let j = judged-version k d in ap (parsed_of k) j.1 ∙ rw (header-value k a b v j.0, n) refl
       go false d = ap (parsed_of k) (judged-plain k e d) ∙ rw n refl
 
@@ -109,6 +110,6 @@ module _ (a b at : ℕ) (v : List ℕ) where
       go (some w) q = rw q refl
 
   pub value-kept : (k : Kind) → is_length k a b ≡ false → is_version k a b ≡ false → (taken_of (allows k a b) v ≡ 0 → ⊥)
-      → parsed_of k (value_field k a b at v) ≡ kept_by a b (taken_of (allows k a b) v)
+      → parsed_of k (value_field k a b at v) ≡ Ok (kept_by a b (taken_of (allows k a b) v))
   unfolding parsed_of plain field_numbers
   value-kept k e d z = ap (parsed_of k) (judged-plain k e d) ∙ rw ((a-value (allows k a b) v z).0, (a-value (allows k a b) v z).1, e, d) refl

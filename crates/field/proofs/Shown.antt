@@ -14,12 +14,13 @@ use Rattle.format.specs.declared.Version.{Version}
 use Rattle.format.specs.declared.Kind.{Kind}
 use Rattle.format.specs.declared.Kind.TheVariants.{Header, ReferenceSequence, ReadGroup, Program, Comment}
 use Rattle.field_tag.specs.Numbers.{is_version, is_length}
-use Rattle.field.specs.declared.ParsedField as code
+use Rattle.std.specs.Prelude.{Ok}
+use Rattle.field.specs.declared.ParsedField.{ParsedField}
 use Rattle.field.specs.Parsed.{kept_by, versioned_by, sized_by, field_numbers}
 use Rattle.field.proofs.Answer.{Told}
 
 -- the tag and the length that are answered are the field's
-pub record Shown (f : Field) (g : code.ParsedField) : Type 0 where
+pub record Shown (f : Field) (g : ParsedField) : Type 0 where
   pub first : g.tag_0 ≡ f.tag₀
   pub second : g.tag_1 ≡ f.tag₁
   pub len : g.len ≡ length f.value.bytes
@@ -60,11 +61,11 @@ module _ (k : Kind) (f : Field) where
   size : ℕ
   size = length f.value.bytes
 
-  pub valued-length : is_length k f.tag₀ f.tag₁ ≡ true → field_numbers k f ≡ sized_by (length f.value.bytes) (worth f.value.bytes)
+  pub valued-length : is_length k f.tag₀ f.tag₁ ≡ true → field_numbers k f ≡ Ok (sized_by (length f.value.bytes) (worth f.value.bytes))
   unfolding field_numbers
   valued-length h = rw h refl
 
-  pub valued-kept : is_length k f.tag₀ f.tag₁ ≡ false → is_version k f.tag₀ f.tag₁ ≡ false → field_numbers k f ≡ kept_by f.tag₀ f.tag₁ (length f.value.bytes)
+  pub valued-kept : is_length k f.tag₀ f.tag₁ ≡ false → is_version k f.tag₀ f.tag₁ ≡ false → field_numbers k f ≡ Ok (kept_by f.tag₀ f.tag₁ (length f.value.bytes))
   unfolding field_numbers
   valued-kept h n = rw (h, n) refl
 
@@ -76,25 +77,32 @@ module _ (k : Kind) (f : Field) where
     -- a version that was accepted was spelled
     pub told-version : is_version k f.tag₀ f.tag₁ ≡ true → (v : Version) × (version f.value.bytes ≡ some v)
     unfolding versioned_by
-    told-version h = go (version f.value.bytes) refl (ap (λ g. g.stop) (sym (valued_by h)) ∙ t.stop)
+    told-version h = go (version f.value.bytes) refl (sym (valued_by h) ∙ t.answer)
       where
-        go : (o : Option Version) → version f.value.bytes ≡ o → (versioned_by (length f.value.bytes) o).stop ≡ 0 → (v : Version) × (version f.value.bytes ≡ some v)
-        go none e z = absurd (omega arith)
+        go : (o : Option Version) → version f.value.bytes ≡ o → versioned_by (length f.value.bytes) o ≡ Ok t.parsed → (v : Version) × (version f.value.bytes ≡ some v)
+        go none e z = absurd (let z : ◌≡◌ {A = ℕ} 0 1 = cc in omega arith)
         go (some v) e z = (v, e)
 
     pub valued-version : (h : is_version k f.tag₀ f.tag₁ ≡ true)
         → field_numbers k f ≡ versioned_by (length f.value.bytes) (some (told-version h).0)
     valued-version h = valued_by h ∙ ap (versioned_by (length f.value.bytes)) (told-version h).1
 
-    pub shown : Shown f (field_numbers k f)
+    pub shown : (g : ParsedField) → field_numbers k f ≡ Ok g → Shown f g
     unfolding versioned_by
-    shown = go (is_length k f.tag₀ f.tag₁) refl (is_version k f.tag₀ f.tag₁) refl
+    shown g q = go (is_length k f.tag₀ f.tag₁) refl (is_version k f.tag₀ f.tag₁) refl
       where
-        go : (l : Bool) → is_length k f.tag₀ f.tag₁ ≡ l → (v : Bool) → is_version k f.tag₀ f.tag₁ ≡ v → Shown f (field_numbers k f)
+        go : (l : Bool) → is_length k f.tag₀ f.tag₁ ≡ l → (v : Bool) → is_version k f.tag₀ f.tag₁ ≡ v → Shown f g
         go true h v n =
             let e = length-tag k f.tag₀ f.tag₁ h in
-            rw (valued-length h) (record { first = sym e.0; second = sym e.1; len = refl })
+            let p : sized_by (length f.value.bytes) (worth f.value.bytes) ≡ g = cc (valued-length h) in
+            rw (← p) (record { first = sym e.0; second = sym e.1; len = refl })
         go false h true n =
             let e = version-tag k f.tag₀ f.tag₁ n in
-            rw (valued-version n) (record { first = sym e.0; second = sym e.1; len = refl })
-        go false h false n = rw (valued-kept h n) (record { first = refl; second = refl; len = refl })
+            let p : fresh (told-version n).0 ≡ g = cc (valued-version n) in
+            rw (← p) (record { first = sym e.0; second = sym e.1; len = refl })
+          where
+            fresh : Version → ParsedField
+            fresh v = record { tag_0 = 86; tag_1 = 78; len = length f.value.bytes; major = v.major; minor = v.minor; length = 0 }
+        go false h false n =
+            let p : kept_by f.tag₀ f.tag₁ (length f.value.bytes) ≡ g = cc (valued-kept h n) in
+            rw (← p) (record { first = refl; second = refl; len = refl })

@@ -9,10 +9,11 @@ ghost use Rattle.field.specs.Taken.{taken_of};
 use format::Kind;
 
 // A byte that may be in a value: space to tilde.
+#[tactic(auto, unfolding(format::specs::Bytes::printable, format::specs::Bytes::between))]
 fn is_printable(b: u8) -> bool
     ensures { result ≡ printable b }
 {
-    field_tag::is_between(b' ', b'~', b)
+    matches!(b, b' '..=b'~')
 }
 
 // Whether all 8 bytes of `s` from `at` on may be in a value. All 8 are always looked at, so that the processor can compare them at once.
@@ -49,8 +50,7 @@ fn pass_printable(s: &[u8]) -> usize
 pub fn value_len(src: &[u8]) -> usize
     ensures { result ≡ taken_of is_value (before 9 src.now) }
 {
-    let mut i = pass_printable(src);
-    while i < src.len() {
+    for i in pass_printable(src)..src.len() {
         let b = src[i];
         if b == b'\t' {
             return i;
@@ -58,9 +58,8 @@ pub fn value_len(src: &[u8]) -> usize
         if !is_printable(b) {
             return 0;
         }
-        i += 1;
     }
-    i
+    src.len()
 }
 
 // The same for a value in UTF-8: goes over blocks of 8 bytes that may be in any value, and then over the characters after them.

@@ -4,54 +4,29 @@ ghost use Rattle.format.specs.Decimal.{number};
 ghost use Rattle.format.specs.Version.{version};
 ghost use Rattle.field.specs.Spelled.{version_side_of, parsed_version_of, VersionTold};
 
-use decimal::Number;
 use format::Version;
 
-// The version in a value.
-#[derive(Clone, Copy)]
-pub enum ParsedVersion {
-    Is(Version),
-    Invalid,
-}
-
-// One side of a version's dot.
-#[derive(Clone, Copy)]
-enum VersionSide {
-    Is(u32),
-    Invalid,
-}
-
-// The number below 2 ^ 32 that all of `src` is.
-fn parse_part(src: &[u8]) -> VersionSide
+// The number below 2 ^ 32 that all of `src` is: one side of a version's dot.
+fn parse_part(src: &[u8]) -> Option<u32>
     ensures { result ≡ version_side_of (number (2 ^ 32) src.now) }
 {
-    match decimal::read_u32(src) {
-        Number::NoDigit => VersionSide::Invalid,
-        Number::TooLarge => VersionSide::Invalid,
-        Number::Is(n, k) => {
-            if k == src.len() {
-                VersionSide::Is(n as u32)
-            } else {
-                VersionSide::Invalid
-            }
-        }
+    let number = decimal::read_u32(src).ok()?;
+    if number.len != src.len() {
+        return None;
     }
+    Some(number.value as u32)
 }
 
 // The version that all of `src` is, split at its first dot.
-pub fn parse_version(src: &[u8]) -> ParsedVersion
+pub fn parse_version(src: &[u8]) -> Option<Version>
     ensures is { result ≡ parsed_version_of (version src.now) }
     ensures refusal { VersionTold src.now result }
 {
     let dot = byte_slices::upto(src, b'.');
     if dot == src.len() {
-        return ParsedVersion::Invalid;
+        return None;
     }
-    let VersionSide::Is(major) = parse_part(&src[..dot]) else {
-        return ParsedVersion::Invalid;
-    };
-    let VersionSide::Is(minor) = parse_part(&src[dot + 1..]) else {
-        return ParsedVersion::Invalid;
-    };
-    ParsedVersion::Is(Version::new(major, minor))
+    let major = parse_part(&src[..dot])?;
+    let minor = parse_part(&src[dot + 1..])?;
+    Some(Version::new(major, minor))
 }

@@ -7,9 +7,11 @@ use native.Mathlib.Omega.{arith}
 use lib.ListN.{length}
 use lib.Dec.{eqb, ltb}
 use borrow.Author.Tests.{eqb-true}
-use Rattle.decimal.specs.Number.{digits_number}
+use Rattle.std.specs.Prelude.{Result, Ok, Err}
+use Rattle.decimal.specs.Number.{number_of, digits_number}
 use Rattle.decimal.specs.declared.Number.{Number}
-use Rattle.decimal.specs.declared.Number.TheVariants as number
+use Rattle.decimal.specs.declared.NumberError.{NumberError}
+use Rattle.decimal.specs.declared.NumberError.TheVariants.{TooLarge}
 use Rattle.decimal.proofs.Front.{digit_low, span-digit, span-stop}
 use Rattle.format.specs.Bytes.{digit, none?}
 use Rattle.format.specs.Decimal.{worth, span}
@@ -18,14 +20,13 @@ use Rattle.format.specs.Fields as fields
 use Rattle.byte_slices.specs.Upto.{before}
 use Rattle.byte_slices.proofs.Before.{before-stop, before-pass}
 use Rattle.field_length.specs.Parsed.{parsed_length_of, piece_refusal, length_refusal}
-use Rattle.field_length.specs.declared.ParsedLength.{ParsedLength}
-use Rattle.field_length.specs.declared.ParsedLength.TheVariants.{Invalid, Zero, Long, Is}
+use Rattle.field_length.specs.declared.LengthError.{LengthError}
+use Rattle.field_length.specs.declared.LengthError.TheVariants.{Invalid, Zero, Long}
 
 -- what is at the front as a number
-unfoldable pub length_by : Number → ParsedLength
-length_by number.NoDigit = Invalid
-length_by number.TooLarge = Invalid
-length_by (number.Is n k) = cond (eqb n 0) Zero (cond (ltb n (2 ^ 31)) (Is n k) Long)
+unfoldable pub length_by : Result Number NumberError → Result Number LengthError
+length_by (Err e) = Err Invalid
+length_by (Ok n) = cond (eqb n.value 0) (Err Zero) (cond (ltb n.value (2 ^ 31)) (Ok n) (Err Long))
 
 pub length-sized : (at : ℕ) (ds rest : List ℕ) → parsed_length_of (length_field at (ds, rest)) ≡ length_by (digits_number (2 ^ 64) ds)
 unfolding parsed_length_of length_field length_by digits_number
@@ -40,7 +41,7 @@ length-sized at (b ∷ ds) rest = go (ltb n (2 ^ 64)) (eqb n 0) refl (ltb n (2 ^
 
     go : (t u : Bool) → eqb n 0 ≡ u → (v : Bool) → ltb n (2 ^ 31) ≡ v → (w : Bool)
         → parsed_length_of (cond (not t) (refused_piece 12) (cond u (refused_piece 13) (cond (not v) (refused_piece 27) (cond w (good f) (good_then f 6)))))
-        ≡ length_by (cond t (number.Is n (length (b ∷ ds))) number.TooLarge)
+        ≡ length_by (cond t (Ok (number_of n (length (b ∷ ds)))) (Err TooLarge))
     go true true k v l w = rw k refl
     go true false k true l true = rw (k, l) refl
     go true false k true l false = rw (k, l) refl

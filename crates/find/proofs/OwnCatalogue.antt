@@ -8,6 +8,7 @@ use native.Mathlib.Omega.{arith}
 use borrow.Author.Tests.{ne_eqb}
 use lib.ListN.{length}
 use lib.Dec.{eqb}
+use Rattle.std.specs.Prelude.{ok_or}
 use Rattle.format.specs.Lines.{Piece}
 use Rattle.format.specs.Fields.{Field}
 use Rattle.format.specs.Records.{Record, header, reference, group, program, comment, code, key, others}
@@ -27,7 +28,8 @@ use Rattle.catalogue_lookup.proofs.Kept.{text-entries, text-counted}
 use Rattle.names.proofs.References.{stands-bytes}
 use Rattle.read.proofs.Fresh.{Current, goes_on, stops}
 use Rattle.format.specs.Finding.{equals_key, key_ordinal_from, finding}
-use Rattle.find.specs.declared.Found.TheVariants.{Nothing, At}
+use Rattle.calls.proofs.OwnCatalogue.{missing}
+use Rattle.find.specs.Answers.{find_answer_of}
 use Rattle.find.specs.Keys.{key_place, keys_in, KeysInText, found_of}
 
 -- ---- the keys that the entries of records say
@@ -124,15 +126,10 @@ keyless k n (r ∷ rs) = go r (keyless k n rs)
 
 -- ---- what is found, as an answer
 
-found_none : (o : Option ℕ) → found_of o ≡ Nothing → there o ≡ refused 25 0
-unfolding found_of there
-found_none none e = refl
-found_none (some i) e = absurd (never cc)
-
-found_some : (o : Option ℕ) (i : ℕ) → found_of o ≡ At i → there o ≡ yes i
-unfolding found_of there
-found_some none i e = absurd (never cc)
-found_some (some j) i e = let z : j ≡ i = cc in ap yes z
+found-answer : (o : Option ℕ) → ok_or (found_of o) missing ≡ find_answer_of (there o)
+unfolding found_of there find_answer_of
+found-answer none = refl
+found-answer (some i) = refl
 
 -- ---- a refusal of the check
 
@@ -171,8 +168,6 @@ module _ (t c : List ℕ) (own : Current t c) (k : ℕ) (x : List ℕ) where
         ap (λ s. id_ordinal_from x 0 (keys_in t k (entries_in s))) own.own ∙ ap (λ es. id_ordinal_from x 0 (keys_in t k es)) (text-entries t rs own.reads)
         ∙ on t k lo hi x 0 0 rs (text-stand t rs own.reads)
 
-    pub find_none : found_of (id_ordinal_from x 0 (keys_in t k (entries_in c))) ≡ Nothing → finding t c k x ≡ refused 25 0
-    find_none e = finds ∙ found_none (key_ordinal_from 0 x (of_kind k rs)) (ap found_of (sym same-search) ∙ e)
-
-    pub find-some : (i : ℕ) → found_of (id_ordinal_from x 0 (keys_in t k (entries_in c))) ≡ At i → finding t c k x ≡ yes i
-    find-some i e = finds ∙ found_some (key_ordinal_from 0 x (of_kind k rs)) i (ap found_of (sym same-search) ∙ e)
+    pub find-served : ok_or (found_of (id_ordinal_from x 0 (keys_in t k (entries_in c)))) missing ≡ find_answer_of (finding t c k x)
+    find-served =
+        ap (λ o. ok_or (found_of o) missing) same-search ∙ found-answer (key_ordinal_from 0 x (of_kind k rs)) ∙ ap find_answer_of (sym finds)

@@ -1,14 +1,13 @@
 -- The keys in the entries of a catalogue.
-use Rattle.std.specs.Prelude.{ℕ, ◌≤◌, cond, List, [], ◌∷◌, length, eqb}
-use Rattle.std.proofs.Math.Option.{Option, none, some}
+use Rattle.std.specs.Prelude.{ℕ, ◌≤◌, cond, List, [], ◌∷◌, length, eqb, Option, None, Some}
+use Rattle.std.proofs.Math.Option as math
+use Rattle.std.proofs.Math.Option.{none, some}
 use Rattle.byte_slices.specs.Stands.{Each}
 use Rattle.catalogue_entries.specs.declared.Place.{Place}
 use Rattle.catalogue_entries.specs.declared.Entry.{Entry}
 use Rattle.catalogue_entries.specs.declared.Entry.TheVariants.{End, Header, ReferenceSequence, ReadGroup, Program, Comment, Field}
 use Rattle.catalogue_entries.specs.Entries.{kind_byte, counted}
 use Rattle.program_ids.specs.Places.{InsideText, bytes_at}
-use Rattle.find.specs.declared.Found.{Found}
-use Rattle.find.specs.declared.Found.TheVariants.{Nothing, At}
 
 -- where the key in an entry is
 unfoldable pub key_place : Entry → Place
@@ -32,6 +31,6 @@ pub record KeysInText (t : List ℕ) (k : ℕ) (es : List Entry) : Type 0 where
   pub few : counted k es ≤ 16777216
 
 -- an ordinal, if there is one
-unfoldable pub found_of : Option ℕ → Found
-found_of none = Nothing
-found_of (some i) = At i
+unfoldable pub found_of : math.Option ℕ → Option ℕ
+found_of none = None
+found_of (some i) = Some i

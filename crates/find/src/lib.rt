@@ -9,22 +9,10 @@ ghost use Rattle.find.specs.Answers.{find_answer_of};
 ghost use Rattle.find.specs.Keys.{key_place, keys_in, KeysInText, found_of};
 
 use catalogue_entries::{Entry, Place};
-use format::LineNo;
-use read::Checked;
+use format::Refusal;
 
-// A refusal and its line, or the ordinal among the records of the kind.
-#[derive(Clone, Copy)]
-pub enum FindAnswer {
-    Refused(u8, LineNo),
-    Is(u32),
-}
-
-// An ordinal, if there is one.
-#[derive(Clone, Copy)]
-enum Found {
-    Nothing,
-    At(u32),
-}
+// The ordinal of a record among those of its kind, or why there is none.
+pub type FindAnswer = Result<u32, Refusal>;
 
 // Where the key in an entry is: SN of SQ, ID of RG and PG.
 fn key_place(e: Entry) -> Place
@@ -39,7 +27,7 @@ fn key_place(e: Entry) -> Place
 }
 
 // The ordinal of the first record of a kind whose key is `key`. Bytes are compared from the last to the first, because long keys often begin alike.
-fn search(text: &[u8], catalogue: &[u8], kind: u8, key: &[u8]) -> Found
+fn search(text: &[u8], catalogue: &[u8], kind: u8, key: &[u8]) -> Option<u32>
     requires { KeysInText text.now kind (entries_in catalogue.now) }
     ensures { result ≡ found_of (id_ordinal_from key.now 0 (keys_in text.now kind (entries_in catalogue.now))) }
 {
@@ -49,7 +37,7 @@ fn search(text: &[u8], catalogue: &[u8], kind: u8, key: &[u8]) -> Found
         let e = catalogue_entries::entry_at(catalogue, at);
         let len = catalogue_entries::size(e);
         if len == 0 {
-            break 'search Found::Nothing;
+            break 'search None;
         }
         if catalogue_entries::kind_of(e) == kind { // no other record takes an ordinal
             let place = key_place(e);
@@ -58,7 +46,7 @@ fn search(text: &[u8], catalogue: &[u8], kind: u8, key: &[u8]) -> Found
                 let mut i: usize = key.len();
                 loop {
                     if i == 0 {
-                        break 'search Found::At(ordinal);
+                        break 'search Some(ordinal);
                     }
                     i -= 1;
                     if text[start + i] != key[i] {
@@ -78,19 +66,12 @@ fn search(text: &[u8], catalogue: &[u8], kind: u8, key: &[u8]) -> Found
 pub fn find(text: &[u8], catalogue: &[u8], kind: u8, key: &[u8]) -> FindAnswer
     ensures { result ≡ find_answer_of (finding text.now catalogue.now kind key.now) }
 {
-    match read::check(text, catalogue) {
-        Checked::Refused(n, line) => FindAnswer::Refused(n, line),
-        Checked::Fresh => {
-            if kind < format::REFERENCE_SEQUENCE {
-                return FindAnswer::Refused(25, LineNo(0));
-            }
-            if format::PROGRAM < kind {
-                return FindAnswer::Refused(25, LineNo(0));
-            }
-            match search(text, catalogue, kind, key) {
-                Found::Nothing => FindAnswer::Refused(25, LineNo(0)),
-                Found::At(ordinal) => FindAnswer::Is(ordinal),
-            }
-        }
+    read::check(text, catalogue)?;
+    if kind < format::REFERENCE_SEQUENCE {
+        return Err(Refusal::of_text(25));
     }
+    if format::PROGRAM < kind {
+        return Err(Refusal::of_text(25));
+    }
+    search(text, catalogue, kind, key).ok_or(Refusal::of_text(25))
 }

@@ -12,20 +12,14 @@ pub const OFFSETS: u32 = 16777216;
 fn ends(text: &[u8], at: usize) -> bool
     ensures { result ≡ none? (word (drop at text.now)) }
 {
-    if text.len() <= at {
-        return true;
-    }
-    text[at] < 32
+    text.len() <= at || text[at] < 32
 }
 
 // Whether a key goes on with the byte `b` where the text has `a`. No key goes on with a byte below 32.
 fn goes_on(a: u8, b: u8) -> bool
     ensures { result ≡ cond (ltb a 32) false (eqb b a) }
 {
-    if a < 32 {
-        return false;
-    }
-    b == a
+    32 <= a && b == a
 }
 
 // Whether the eight bytes of a key from `i` on are the eight bytes of the text from `at` on, and none of these ends a key. All eight are always
@@ -36,12 +30,10 @@ fn is_same_block(text: &[u8], at: usize, key: &[u8], i: usize) -> bool
     ensures { same_from key.now i text.now at ≡ (result && same_from key.now (i + 8) text.now (at + 8)) }
 {
     let mut all = true;
-    let mut j: usize = 0;
-    while j < 8 {
+    for j in 0..8 {
         if !goes_on(text[at + j], key[i + j]) {
             all = false;
         }
-        j += 1;
     }
     all
 }
@@ -52,14 +44,14 @@ fn pass_same(text: &[u8], at: usize, key: &[u8]) -> usize
     ensures within { result ≤ length key.now }
     ensures rest { same key.now (word (drop at text.now)) ≡ same_from key.now result text.now (at + result) }
 {
-    let mut i: usize = 0;
-    while 8 <= key.len() - i {
+    let blocks = key.len() / 8;
+    for block in 0..blocks {
+        let i = block * 8;
         if !is_same_block(text, at + i, key, i) {
             return i;
         }
-        i += 8;
     }
-    i
+    blocks * 8
 }
 
 // Whether the key at the offset `at` is `key`: looks first at where it ends, then compares block by block, and then byte by byte.
@@ -74,16 +66,10 @@ pub fn is_at(text: &[u8], at: usize, key: &[u8]) -> bool
     if !ends(text, end) {
         return false; // a key that goes on
     }
-    let mut i = pass_same(text, at, key);
-    while i < key.len() {
-        let b = key[i];
-        if text[at + i] != b {
+    for i in pass_same(text, at, key)..key.len() {
+        if !goes_on(text[at + i], key[i]) {
             return false;
         }
-        if b < 32 {
-            return false; // the key in the text ended before
-        }
-        i += 1;
     }
     true
 }

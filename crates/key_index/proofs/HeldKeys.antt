@@ -1,22 +1,20 @@
 -- The slots that hold the keys of some records: a key is met exactly if one of them has it, and one more enters.
-use Prim.Native.Nat.{ℕ, zero, suc, ◌+◌, ◌-◌, ◌*◌, ◌/◌, ◌≤◌, ◌<◌}
+use Prim.Native.Nat.{ℕ, zero, suc, ◌-◌, ◌/◌, ◌≤◌, ◌<◌}
 use mathlib.Core.Path.{◌≡◌, refl, sym, ap, subst, ◌∙◌}
 use mathlib.Core.Bool.{Bool, true, false, ◌&&◌, ◌||◌, cond, false≢true}
-use mathlib.Core.List.{List, [], ◌∷◌, ◌++◌, map, append-nil, append_assoc}
+use mathlib.Core.List.{List, [], ◌∷◌, ◌++◌, append-nil, append_assoc}
 use native.Mathlib.Omega.{arith}
-use lib.ListN.{length, take, drop, set, get_or, replicate, length-set, length-append}
-use lib.Dec.{eqb, ltb, leb}
+use lib.ListN.{length, take, drop, get_or, length-set}
+use lib.Dec.{eqb, ltb}
 use borrow.Author.Tests.{lt-ltb, ltb-false}
 use Rattle.format.specs.Bytes.{any, same}
-use Rattle.format.specs.Lines.{Piece, lines}
+use Rattle.format.specs.Lines.{Piece}
 use Rattle.format.specs.Records as records
 use Rattle.format.specs.Records.{Record, header, reference, group, program, comment, code, key, Line, refused_line, read}
 use Rattle.format.specs.Slots.{pick, Held}
 use Rattle.byte_slices.specs.First.{first_line}
 use Rattle.byte_slices.specs.Stands.{Stands, Each}
 use Rattle.accepted.specs.Pieces.{pieces}
-use Rattle.lists.specs.Pairs.{Pairs}
-use Rattle.lists.proofs.Bools.{or_assoc}
 use Rattle.record.specs.Head.{head_of, record_head, stretch_of}
 use Rattle.record.specs.declared.Head.{Head}
 use Rattle.record.specs.declared.Head.TheVariants as head

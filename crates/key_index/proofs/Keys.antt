@@ -1,40 +1,38 @@
 -- The key of a head says all that looking needs of the head.
 use Prim.Native.Nat.{ℕ, ◌+◌, ◌/◌, ◌%◌, ◌≤◌, ◌<◌}
-use mathlib.Core.Path.{◌≡◌, refl, sym, ap, ◌∙◌}
-use mathlib.Core.Bool.{Bool, cond}
+use mathlib.Core.Path.{◌≡◌, refl}
+use mathlib.Core.Bool.{Bool}
 use mathlib.Core.List.{List}
 use native.Mathlib.Omega.{arith}
 use native.Mathlib.Nat.{mod-lt}
-use lib.ListN.{length}
+use Rattle.std.specs.Prelude.{IfSome, MatchOption, Some}
 use Rattle.record.specs.declared.Stretch.{Stretch}
 use Rattle.record.specs.declared.Head.{Head}
 use Rattle.record.specs.declared.Head.TheVariants as head
 use Rattle.key_look.specs.declared.Seed.{Seed}
-use Rattle.key_look.specs.declared.Sought.{Sought}
-use Rattle.key_look.specs.declared.Sought.TheVariants.{Full}
 use Rattle.key_look.specs.Seed.{key_number}
-use Rattle.key_look.specs.Sought.{sought, looks, fingerprint, key_at}
+use Rattle.key_look.specs.Sought.{fingerprint, key_at}
 use Rattle.key_index.specs.KeySlots.{value, says_known, after_looking, is_found, looks_of, after_entering, sought_of, offset_of}
 use Rattle.key_index.specs.Keyed.{KeyInText, key_of, sought_by, looks_by, print_by}
 
 -- it lies within the text, below the offset 2 ^ 24
-pub key-inside : (size : ℕ) (x : Head) → KeyInText size x → (key_of x).place.at + (key_of x).place.len ≤ size
+pub key-inside : (size : ℕ) (x : Head) → KeyInText size x → IfSome (key_of x) (λ k. k.place.at + k.place.len ≤ size)
 unfolding KeyInText key_of
-key-inside size (head.Refused n) h = omega arith
-key-inside size (head.Header v n) h = omega arith
+key-inside size (head.Refused n) h = tt
+key-inside size (head.Header v n) h = tt
 key-inside size (head.ReferenceSequence p l n) h = h.0
 key-inside size (head.ReadGroup p n) h = h.0
 key-inside size (head.Program p n) h = h.0
-key-inside size (head.Comment p) h = omega arith
+key-inside size (head.Comment p) h = tt
 
-pub key-offset : (x : Head) → (key_of x).place.at ≡ offset_of x
+pub key-offset : (x : Head) → IfSome (key_of x) (λ k. k.place.at ≡ offset_of x)
 unfolding key_of offset_of
-key-offset (head.Refused n) = refl
-key-offset (head.Header v n) = refl
+key-offset (head.Refused n) = tt
+key-offset (head.Header v n) = tt
 key-offset (head.ReferenceSequence p l n) = refl
 key-offset (head.ReadGroup p n) = refl
 key-offset (head.Program p n) = refl
-key-offset (head.Comment p) = refl
+key-offset (head.Comment p) = tt
 
 module _ (seed : Seed) (t slots : List ℕ) where
   small : (k : ℕ) (p : Stretch) → key_number seed k (key_at t p) / 134217728 % 32 < 32
@@ -78,7 +76,7 @@ module _ (seed : Seed) (t slots : List ℕ) where
   found-by-key (head.Comment p) = refl
 
   pub entered-by-key : (room : Bool) (x : Head)
-      → after_looking room (value (print_by seed t (key_of x)) (key_of x).place.at) slots (sought_by seed t slots (key_of x)) ≡ after_entering seed room t slots x
+      → MatchOption (key_of x) (slots ≡ after_entering seed room t slots x) (λ k. after_looking room (value (print_by seed t (Some k)) k.place.at) slots (sought_by seed t slots (Some k)) ≡ after_entering seed room t slots x)
   unfolding key_of sought_by print_by after_entering after_looking value
   entered-by-key room (head.Refused n) = refl
   entered-by-key room (head.Header v n) = refl

@@ -1,6 +1,5 @@
 -- The key of a head, and looking for it.
-use Rattle.std.specs.Prelude.{ℕ, ◌+◌, ◌≤◌, ◌<◌, List, eqb}
-use Rattle.std.proofs.Math.Bool.{cond}
+use Rattle.std.specs.Prelude.{ℕ, ◌+◌, ◌≤◌, ◌<◌, List, Option, Some, None}
 use Rattle.record.specs.declared.Head.{Head}
 use Rattle.record.specs.declared.Head.TheVariants as head
 use Rattle.key_look.specs.declared.Seed.{Seed}
@@ -18,31 +17,30 @@ KeyInText size (head.ReadGroup p n) = (p.at + p.len ≤ size) × (p.at < 1677721
 KeyInText size (head.Program p n) = (p.at + p.len ≤ size) × (p.at < 16777216)
 KeyInText size (head.Comment p) = Unit
 
--- what a head without a key has
-abbrev pub no_key : Key
-no_key = record { kind = 0; place = record { at = 0; len = 0 } }
-
 -- the key of a head
-unfoldable pub key_of : Head → Key
-key_of (head.Refused n) = no_key
-key_of (head.Header v n) = no_key
-key_of (head.ReferenceSequence p l n) = record { kind = 2; place = p }
-key_of (head.ReadGroup p n) = record { kind = 3; place = p }
-key_of (head.Program p n) = record { kind = 4; place = p }
-key_of (head.Comment p) = no_key
+unfoldable pub key_of : Head → Option Key
+key_of (head.Refused n) = None
+key_of (head.Header v n) = None
+key_of (head.ReferenceSequence p l n) = Some (record { kind = 2; place = p })
+key_of (head.ReadGroup p n) = Some (record { kind = 3; place = p })
+key_of (head.Program p n) = Some (record { kind = 4; place = p })
+key_of (head.Comment p) = None
 
 module _ (seed : Seed) where
-  -- how looking for a key ends: no slot holds the kind 0
-  unfoldable pub sought_by : List ℕ → List ℕ → Key → Sought
+  -- how looking for a key ends: no slot holds the key of a head without one
+  unfoldable pub sought_by : List ℕ → List ℕ → Option Key → Sought
   unfolding sought
-  sought_by t slots k = cond (eqb k.kind 0) Full (sought_at seed t slots k.kind k.place)
+  sought_by t slots None = Full
+  sought_by t slots (Some k) = sought_at seed t slots k.kind k.place
 
   -- how many slots are looked at for it
-  unfoldable pub looks_by : List ℕ → List ℕ → Key → ℕ
+  unfoldable pub looks_by : List ℕ → List ℕ → Option Key → ℕ
   unfolding looks
-  looks_by t slots k = cond (eqb k.kind 0) 0 (looks_at seed t slots k.kind k.place)
+  looks_by t slots None = 0
+  looks_by t slots (Some k) = looks_at seed t slots k.kind k.place
 
   -- its fingerprint
-  unfoldable pub print_by : List ℕ → Key → ℕ
+  unfoldable pub print_by : List ℕ → Option Key → ℕ
   unfolding fingerprint
-  print_by t k = cond (eqb k.kind 0) 0 (fingerprint seed k.kind (key_at t k.place))
+  print_by t None = 0
+  print_by t (Some k) = fingerprint seed k.kind (key_at t k.place)

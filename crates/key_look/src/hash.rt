@@ -29,10 +29,9 @@ pub fn hash(kind: u8, id: &[u8]) -> usize
     ensures { result ≡ key_hash kind id.now }
 {
     let mut h = hash_words(kind, id);
-    let mut i = id.len() - id.len() % 4;
-    while i < id.len() {
-        h = mix(h, id[i] as usize);
-        i += 1;
+    let rest = &id[id.len() - id.len() % 4..];
+    for b in rest {
+        h = mix(h, *b as usize);
     }
     h
 }

@@ -107,10 +107,9 @@ fn look_from(text: &[u8], area: &[u32], number: usize, print: u32, id: &[u8]) ->
     ensures print { result.print ≡ print }
 {
     let mut at: usize = number % area.len();
-    let mut slots: usize = 0;
-    while slots < area.len() {
+    for passed in 0..area.len() {
         let slot = area[at];
-        slots += 1;
+        let slots = passed + 1;
         if slot == 0 {
             let sought = Sought::Free(at);
             return Looked {
@@ -129,10 +128,9 @@ fn look_from(text: &[u8], area: &[u32], number: usize, print: u32, id: &[u8]) ->
         }
         at = next(at, area.len());
     }
-    let sought = Sought::Full;
     Looked {
-        sought,
-        slots,
+        sought: Sought::Full,
+        slots: area.len(),
         print,
     }
 }

@@ -1,12 +1,11 @@
 -- A step of the walk over a PG line: a field that is passed over, and the next of the fields that an image keeps.
 use Prim.Native.Nat.{ℕ, ◌+◌, ◌-◌, ◌≤◌, ◌<◌}
-use mathlib.Core.Path.{◌≡◌, refl, sym, ap, ap₂, ◌∙◌}
-use mathlib.Core.Bool.{Bool, true, false, not, ◌&&◌, ◌||◌, cond}
+use mathlib.Core.Path.{◌≡◌, refl, ap, ap₂, ◌∙◌}
+use mathlib.Core.Bool.{Bool, true, false, not, ◌&&◌, ◌||◌}
 use mathlib.Core.List.{List, [], ◌∷◌}
 use native.Mathlib.Omega.{arith}
 use lib.ListN.{length, take, drop, get_or}
 use lib.Dec.{eqb}
-use borrow.Author.Tests.{not-true, not-false}
 use Rattle.format.specs.Lines.{Piece}
 use Rattle.format.specs.Fields.{Field, tagged, without}
 use Rattle.format.specs.declared.Kind.TheVariants.{Program}
@@ -19,9 +18,10 @@ use Rattle.accepted_line.specs.Next.{is_first, kept_at}
 use Rattle.record.specs.declared.Stretch.{Stretch}
 use Rattle.accepted_line.proofs.fields.Here.{ended}
 use Rattle.accepted_line.proofs.fields.Walked.{Taken}
-use Rattle.accepted_line.proofs.fields.Place.{next-at, bounds, passed-at, taken_at}
+use Rattle.accepted_line.proofs.fields.Place.{passed-at, taken_at}
 use Rattle.merge_fields.specs.Kept.{is_passed, kept_from, told_field, told_fields}
 use Rattle.merge_fields.specs.declared.NextField.{NextField}
+use Rattle.std.specs.Prelude.{None, Some}
 
 without-one : (f : Field) (fs gs : List Field) → gs ≡ f ∷ fs → tagged 80 80 f ≡ true → without 80 80 gs ≡ without 80 80 fs
 unfolding without
@@ -91,11 +91,11 @@ module _ (once : Bool) (at : ℕ) (line : List ℕ) (i : ℕ) (h : AtField once 
 
 -- ---- by what the next field is
 
-module _ (at : ℕ) (line : List ℕ) (r : NextField) where
-  pub told-one : r.found ≡ true → told_fields at line r ≡ told_field at line r ∷ kept_from at line r.next
-  unfolding told_fields
-  told-one e = ap (λ b. cond b (told_field at line r ∷ kept_from at line r.next) []) e
+pub told_none : (at : ℕ) (line : List ℕ) → told_fields at line None ≡ []
+unfolding told_fields
+told_none at line = refl
 
-  pub told_none : r.found ≡ false → told_fields at line r ≡ []
+module _ (at : ℕ) (line : List ℕ) (r : NextField) where
+  pub told-one : told_fields at line (Some r) ≡ told_field at line r ∷ kept_from at line r.next
   unfolding told_fields
-  told_none e = ap (λ b. cond b (told_field at line r ∷ kept_from at line r.next) []) e
+  told-one = refl

@@ -1,7 +1,6 @@
 -- Two walks side by side: what is left of the one and of the other.
-use Prim.Native.Nat.{ℕ}
-use mathlib.Core.Path.{◌≡◌, refl, sym, ap, ap₂, ◌∙◌}
-use mathlib.Core.Bool.{Bool, true, false, not, ◌&&◌}
+use mathlib.Core.Path.{◌≡◌, refl}
+use mathlib.Core.Bool.{true, false, ◌&&◌}
 use mathlib.Core.List.{List, [], ◌∷◌}
 use Rattle.format.specs.Fields.{Field}
 use Rattle.format.specs.Merge.{alike, same_field, keeps_fields}

@@ -9,10 +9,9 @@ ghost use Rattle.format.specs.Merge.{same_field, keeps_fields};
 ghost use Rattle.program_lines.specs.Line.{FieldsOf};
 ghost use Rattle.merge_fields.specs.Kept.{is_passed, kept_from, told_field, told_fields, NextInLine};
 
-// The next field: its tag, where its value is in the line, and where the field after it starts; `found` is false if no field is left.
+// A field: its tag, where its value is in the line, and where the field after it starts.
 #[derive(Clone, Copy)]
 struct NextField {
-    found: bool,
     first: u8,
     second: u8,
     from: usize,
@@ -30,8 +29,8 @@ fn is_passed(a: u8, b: u8) -> bool
     field_tag::is_same_tag(a, b, b'P', b'P')
 }
 
-// The first field from the place `start` on that is neither ID nor PP and is the first with its tag, with the last value of that tag.
-fn next_field(line: &[u8], at: usize, start: usize, tables: &[u32]) -> NextField
+// The first field from the place `start` on that is neither ID nor PP and is the first with its tag, with the last value of that tag, if any is left.
+fn next_field(line: &[u8], at: usize, start: usize, tables: &[u32]) -> Option<NextField>
     requires walkable { Walkable at line.now tables.now }
     requires at_field { AtField (none? tables.now) at line.now start }
     requires line_bound { at + length line.now ≤ 16777216 }
@@ -46,26 +45,18 @@ fn next_field(line: &[u8], at: usize, start: usize, tables: &[u32]) -> NextField
         if !is_passed(first, second) {
             if accepted_line::fields::is_first_of_tag(line, at, i, tables) {
                 let v = accepted_line::fields::kept_value(line, at, i, end, tables);
-                return NextField {
-                    found: true,
+                return Some(NextField {
                     first,
                     second,
                     from: v.at - at,
                     len: v.len,
                     next: end,
-                };
+                });
             }
         }
         i = end;
     }
-    NextField {
-        found: false,
-        first: 0,
-        second: 0,
-        from: 0,
-        len: 0,
-        next: i,
-    }
+    None
 }
 
 // Whether two fields have the same tag and value.
@@ -101,24 +92,21 @@ fn same_walks(
 {
     let mut i: usize = 3;
     let mut j: usize = 3;
-    loop {
-        let f = next_field(a, at_a, i, tables_a);
-        let g = next_field(b, at_b, j, tables_b);
-        if !f.found {
-            return !g.found;
-        }
-        if !g.found {
+    while let Some(f) = next_field(a, at_a, i, tables_a) {
+        let Some(g) = next_field(b, at_b, j, tables_b) else {
             return false;
-        }
+        };
         if !same_field(a, f, b, g) {
             return false;
         }
         i = f.next;
         j = g.next;
     }
+    next_field(b, at_b, j, tables_b).is_none()
 }
 
-// The same, if the tables of the second line still have to be made.
+// The same, if the tables of the second line still have to be made. It stands apart from `same_fields`, since one function for both lines would clear
+// 50 KiB of tables at each call, also where no line needs them.
 fn same_as_line(a: &[u8], at_a: usize, tables: &[u32], b: &[u8], at_b: usize, strict: bool) -> bool
     requires walkable { Walkable at_a a.now tables.now }
     requires a_bound { at_a + length a.now ≤ 16777216 }

@@ -1,8 +1,8 @@
 -- The laws of slots: an offset enters, and a slot is marked.
 use Prim.Native.Nat.{ℕ, ◌+◌, ◌-◌, ◌*◌, ◌%◌, ◌≤◌, ◌<◌}
-use mathlib.Core.Path.{◌≡◌, refl, sym, ap, ap₂, subst, ◌∙◌}
-use mathlib.Core.Bool.{Bool, true, false}
-use mathlib.Core.List.{List, [], ◌∷◌}
+use mathlib.Core.Path.{◌≡◌, sym, ap, subst, ◌∙◌}
+use mathlib.Core.Bool.{Bool, true}
+use mathlib.Core.List.{List, ◌∷◌}
 use native.Mathlib.Omega.{arith}
 use lib.ListN.{length, get_or, set, replicate, get_or-replicate, length-replicate, get_or-eq_default}
 use lib.Seq.{get_or-set_same, get_or-set_other, set_out}
@@ -15,7 +15,6 @@ use Rattle.format.specs.References.{Reference, same_reference}
 use Rattle.binary_references.specs.Next.{sq_from}
 use Rattle.merge_references.specs.Joining.{met_in, Apart, From}
 use Rattle.merge_references.proofs.Names.{met-same, same_from_lem}
-use Rattle.merge_references.specs.declared.Met.TheVariants.{Same}
 use Rattle.merge_hints.specs.Hints.{slot_offset, Placed, Agreed, Known, Marked}
 
 -- ---- what holds of every slot

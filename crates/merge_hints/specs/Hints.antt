@@ -1,9 +1,8 @@
 -- Slots that hold references of a text, and which of them are marked.
-use Rattle.std.specs.Prelude.{ℕ, ◌-◌, ◌%◌, ◌≤◌, ◌≡◌, Bool, true, List, ◌∷◌, length, get_or}
+use Rattle.std.specs.Prelude.{ℕ, ◌-◌, ◌%◌, ◌≤◌, ◌≡◌, Bool, true, List, ◌∷◌, length, get_or, Some}
 use Rattle.format.specs.References.{Reference, same_reference}
 use Rattle.binary_references.specs.Next.{sq_from}
 use Rattle.merge_references.specs.Joining.{met_in}
-use Rattle.merge_references.specs.declared.Met.TheVariants.{Same}
 
 -- the offset from which the reference of a slot is the next one: 0 for an empty slot
 unfoldable pub slot_offset : ℕ → ℕ
@@ -15,11 +14,11 @@ pub record Placed (t slots : List ℕ) : Type 0 where
 
 -- a reference with the name and the length of `r` is found among `rs`
 abbrev pub Agreed : Reference → List Reference → Type 0
-Agreed r rs = (q : Reference) → same_reference q r ≡ true → met_in q rs ≡ Same
+Agreed r rs = (q : Reference) → same_reference q r ≡ true → met_in q rs ≡ Some true
 
 -- the next reference from the offset `at` on is found among `rs`, with its length
 abbrev pub Known : Bool → List ℕ → List Reference → ℕ → Type 0
-Known strict t rs at = (q : Reference) (rest : List Reference) → sq_from strict t at ≡ q ∷ rest → met_in q rs ≡ Same
+Known strict t rs at = (q : Reference) (rest : List Reference) → sq_from strict t at ≡ q ∷ rest → met_in q rs ≡ Some true
 
 -- the reference of each marked slot is found among `rs`
 pub record Marked (strict : Bool) (t : List ℕ) (rs : List Reference) (slots : List ℕ) : Type 0 where

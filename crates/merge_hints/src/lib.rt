@@ -45,17 +45,14 @@ pub fn enter_block(b: &[u8], strict: bool, start: usize, area: &mut [u32])
     ensures marked { (rs : List Reference) → Marked strict b.now rs area.old
         → Marked strict b.now rs area.new }
 {
-    let mut left = area.len() / 4 * 3;
     let mut at = start;
-    while 0 < left {
-        let r = binary_references::next_reference(b, strict, at);
-        if !r.found {
+    for _ in 0..area.len() / 4 * 3 {
+        let Some(r) = binary_references::next_reference(b, strict, at) else {
             return;
-        }
+        };
         let h = number(b, r);
         name_index::enter(area, h % area.len(), (at + 1) as u32 + tag(h));
         at = r.next;
-        left -= 1;
     }
 }
 
@@ -84,16 +81,14 @@ fn mark_one(area: &mut [u32], b: &[u8], strict: bool, a: &[u8], r: NextReference
     let h = number(a, r);
     let own = tag(h);
     let mut at = h % n;
-    let mut i: usize = 0;
-    while i < n {
+    for _ in 0..n {
         let v = area[at];
         let place = v % OFFSETS;
         if place == 0 {
             return;
         }
         if v - place == own {
-            let q = binary_references::next_reference(b, strict, (place - 1) as usize);
-            if q.found {
+            if let Some(q) = binary_references::next_reference(b, strict, (place - 1) as usize) {
                 if merge_references::same_reference(b, q, a, r) {
                     area[at] = v + MARK;
                     return;
@@ -101,7 +96,6 @@ fn mark_one(area: &mut [u32], b: &[u8], strict: bool, a: &[u8], r: NextReference
             }
         }
         at = after(at, n);
-        i += 1;
     }
 }
 
@@ -115,11 +109,7 @@ pub fn mark_all(a: &[u8], strict_a: bool, b: &[u8], strict_b: bool, area: &mut [
     ensures { Marked strict_b b.now (sq_from strict_a a.now 0) area.new }
 {
     let mut at: usize = 0;
-    loop {
-        let r = binary_references::next_reference(a, strict_a, at);
-        if !r.found {
-            return;
-        }
+    while let Some(r) = binary_references::next_reference(a, strict_a, at) {
         mark_one(area, b, strict_b, a, r);
         at = r.next;
     }
@@ -137,20 +127,15 @@ pub fn is_marked(area: &[u32], b: &[u8], at: usize, q: NextReference) -> bool
     let h = number(b, q);
     let own = (at + 1) as u32 + tag(h);
     let mut p = h % n;
-    let mut i: usize = 0;
-    while i < n {
+    for _ in 0..n {
         let v = area[p];
         if v == own + MARK {
             return true;
         }
-        if v == 0 {
-            return false;
-        }
-        if v == own {
+        if v == 0 || v == own {
             return false;
         }
         p = after(p, n);
-        i += 1;
     }
     false
 }

@@ -13,13 +13,13 @@ use Rattle.byte_slices.proofs.Equal.{same-equal, same_self}
 use Rattle.accepted.proofs.Apart.{same-sym}
 use Rattle.lists.proofs.Bools.{never, split, and_left, and_right}
 use Rattle.format.specs.References.{Reference, same_reference, same_references}
-use Rattle.binary_references.specs.Next.{sq_from, told_list}
+use Rattle.binary_references.specs.Next.{sq_from, told_list, NextInText}
 use Rattle.binary_references.specs.declared.NextReference.{NextReference}
-use Rattle.format.specs.Merge.{same_name, differ}
+use Rattle.format.specs.Merge.{same_name}
 use Rattle.merge_references.specs.Joining.{Apart, met_in, left_of}
 use Rattle.merge_references.proofs.Names.{none-differs, past-front, met-nothing, met-agrees, met-differs}
 use Rattle.merge_references.proofs.Lists.{left-new, left-known, left_other, one-turn, one-short}
-use Rattle.merge_references.specs.declared.Met.TheVariants.{Nothing, Same, Other}
+use Rattle.std.specs.Prelude.{Option, None, Some}
 use Rattle.merge_joined.specs.declared.Left.{Left}
 use Rattle.merge_joined.specs.Passing.{Ahead, Behind, Reached, Passed}
 
@@ -47,14 +47,14 @@ same-list (r ∷ rs) (q ∷ qs) h = ap₂ (λ x xs. x ∷ xs) (same-one r q (and
 -- ---- how far the merged list is passed
 
 -- A's own references
-pub behind-front : (rs : List Reference) (strict : Bool) (t : List ℕ) (next : ℕ) (n : NextReference) → sq_from strict t next ≡ told_list strict t n → (good : Bool)
-    → ((l : List Reference) → same_references (sq_from strict t 0) (rs ++ l) ≡ good && same_references (sq_from strict t next) l) → good ≡ true → Behind rs strict t n
-behind-front rs strict t next n e good h g = record {
+pub behind-front : (rs : List Reference) (strict : Bool) (t : List ℕ) (next : ℕ) (n : Option NextReference) → sq_from strict t next ≡ told_list strict t n
+    → ((l : List Reference) → same_references (sq_from strict t 0) (rs ++ l) ≡ same_references (sq_from strict t next) l) → Behind rs strict t n
+behind-front rs strict t next n e h = record {
   more = [];
-  joined = same-list (sq_from strict t 0) (rs ++ sq_from strict t next) (h (sq_from strict t next) ∙ ap₂ ◌&&◌ g (same-all (sq_from strict t next))) ∙ ap (λ l. rs ++ l) e;
+  joined = same-list (sq_from strict t 0) (rs ++ sq_from strict t next) (h (sq_from strict t next) ∙ same-all (sq_from strict t next)) ∙ ap (λ l. rs ++ l) e;
 }
 
-module _ (rs : List Reference) (strict : Bool) (t : List ℕ) (n y : NextReference) (h : Behind rs strict t n) (r : Reference) (e : told_list strict t n ≡ r ∷ told_list strict t y) where
+module _ (rs : List Reference) (strict : Bool) (t : List ℕ) (n y : Option NextReference) (h : Behind rs strict t n) (r : Reference) (e : told_list strict t n ≡ r ∷ told_list strict t y) where
   -- one more
   pub behind-next : Behind rs strict t y
   behind-next = record {
@@ -83,6 +83,12 @@ module _ (rs : List Reference) (strict : Bool) (t : List ℕ) (n y : NextReferen
     where
       named : same q.name r.name ≡ true → same r.name q.name ≡ true
       named s = ap (λ x. same r.name x) (same-equal q.name r.name s) ∙ same_self r.name
+
+-- ---- what a walk over the merged text gives is ahead
+
+pub found-ahead : (strict : Bool) (t : List ℕ) (at : ℕ) (r : Option NextReference) → NextInText strict t at r → Ahead t r
+found-ahead strict t at None h = tt
+found-ahead strict t at (Some n) h = record { name = h.found.name; within = h.found.within }
 
 -- ---- the next of the merged list has another name, or there is none
 
@@ -135,7 +141,7 @@ module _ (rs : List Reference) (strict-b : Bool) (b : List ℕ) (strict-m : Bool
       rest = sq_from strict-b b after
 
       -- it is the next of the merged list
-      pub passed-new : Apart (sq_from strict-m m 0) → (n : Reference) (y : NextReference) → ms ≡ n ∷ told_list strict-m m y → Ahead m y → same_name q n ≡ true → (good : Bool) → good ≡ eqb n.size q.size
+      pub passed-new : Apart (sq_from strict-m m 0) → (n : Reference) (y : Option NextReference) → ms ≡ n ∷ told_list strict-m m y → Ahead m y → same_name q n ≡ true → (good : Bool) → good ≡ eqb n.size q.size
           → Passed rs strict-b b strict-m m from (record { good = good; more = good; at = after; ahead = y })
       passed-new p n y d i s good g = record {
         leaves = ap (λ x. left_of rs x ms) e ∙ behind-new rs strict-m m from.ahead y r.behind n d p q s rest ∙ ap (λ t. t && left_of rs rest (told_list strict-m m y)) (sym g);
@@ -147,7 +153,7 @@ module _ (rs : List Reference) (strict-b : Bool) (b : List ℕ) (strict-m : Bool
 
       module _ (apart : Apart rs) where
         -- A has it, with the same length
-        pub passed-known : met_in q rs ≡ Same → Passed rs strict-b b strict-m m from (record { good = true; more = true; at = after; ahead = from.ahead })
+        pub passed-known : met_in q rs ≡ Some true → Passed rs strict-b b strict-m m from (record { good = true; more = true; at = after; ahead = from.ahead })
         passed-known h = let n = met-agrees q rs apart h in record {
           leaves = ap (λ x. left_of rs x ms) e ∙ left-known rs rest ms q n.0 n.1;
           reached = record { within = l; merged = r.merged; behind = r.behind };
@@ -166,11 +172,11 @@ module _ (rs : List Reference) (strict-b : Bool) (b : List ℕ) (strict-m : Bool
         }
 
         -- with another
-        pub passed-other : met_in q rs ≡ Other → Passed rs strict-b b strict-m m from (record { good = false; more = false; at = after; ahead = from.ahead })
+        pub passed-other : met_in q rs ≡ Some false → Passed rs strict-b b strict-m m from (record { good = false; more = false; at = after; ahead = from.ahead })
         passed-other h = refuted (left_other rs rest ms q (met-differs q rs apart h))
 
         -- A has it not, and it is not the next of the merged list
-        pub passed-lost : ((k : List Reference) → same_references ms (q ∷ k) ≡ false) → met_in q rs ≡ Nothing → Passed rs strict-b b strict-m m from (record { good = false; more = false; at = after; ahead = from.ahead })
+        pub passed-lost : ((k : List Reference) → same_references ms (q ∷ k) ≡ false) → met_in q rs ≡ None → Passed rs strict-b b strict-m m from (record { good = false; more = false; at = after; ahead = from.ahead })
         passed-lost g h = let n = met-nothing q rs apart h in refuted (left-new rs rest ms q n.0 n.1 false ms g)
 
 -- a step that passes nothing is the last

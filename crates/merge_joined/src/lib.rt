@@ -3,7 +3,7 @@
 // taken in blocks: the references of a block are put into slots, and a walk over A marks those that A has.
 #![tactic(auto)]
 
-ghost use Rattle.std.specs.Prelude.{◌≡◌, true, false, ◌≤◌, ◌<◌, length};
+ghost use Rattle.std.specs.Prelude.{◌≡◌, true, false, ◌≤◌, ◌<◌, length, IfSome};
 ghost use Rattle.format.specs.Merge.{is_joined};
 ghost use Rattle.binary_references.specs.Next.{sq_from};
 ghost use Rattle.merge_references.specs.Joining.{Apart, From};
@@ -11,7 +11,6 @@ ghost use Rattle.merge_hints.specs.Hints.{Placed, Marked};
 ghost use Rattle.merge_joined.specs.Passing.{Readable, Ahead, Reached, Passed, IsNext};
 
 use binary_references::NextReference;
-use merge_references::Met;
 
 // If A and B together have at most so many bytes, they are compared with a small area of slots.
 const SHORT: usize = 524288;
@@ -30,16 +29,14 @@ struct Left {
     good: bool,
     more: bool,
     at: usize,
-    ahead: NextReference,
+    ahead: Option<NextReference>,
 }
 
-// What is left after the next reference of B, if that one is settled: B has none, or it is the next of the merged list too. Otherwise the reference
-// itself.
+// The next reference of B: what is left after it, if B has none or it is the next of the merged list too, or else the reference itself.
 #[derive(Clone, Copy)]
-struct Turn {
-    settled: bool,
-    left: Left,
-    q: NextReference,
+enum Turn {
+    Settled(Left),
+    Open(NextReference),
 }
 
 // Passes the next reference of B if it is the next of the merged list.
@@ -49,55 +46,38 @@ fn pass_new(b: &[u8], m: &[u8], of: Rules, left: Left) -> Turn
     requires apart { Apart (sq_from of.merged m.now 0) }
     ensures { IsNext of.b b.now of.merged m.now left result }
 {
-    let q = binary_references::next_reference(b, of.b, left.at);
-    let n = left.ahead;
-    if !q.found {
-        let spent = Left {
+    let Some(q) = binary_references::next_reference(b, of.b, left.at) else {
+        return Turn::Settled(Left {
             good: true,
             more: false,
             at: left.at,
-            ahead: n,
-        };
-        return Turn {
-            settled: true,
-            left: spent,
-            q,
-        };
+            ahead: left.ahead,
+        });
+    };
+    let Some(n) = left.ahead else {
+        return Turn::Open(q);
+    };
+    if !merge_references::same_name(b, q, m, n) {
+        return Turn::Open(q);
     }
-    if n.found {
-        if merge_references::same_name(b, q, m, n) {
-            let ahead = binary_references::next_reference(m, of.merged, n.next);
-            let good = n.length == q.length;
-            let passed = Left {
-                good,
-                more: good,
-                at: q.next,
-                ahead,
-            };
-            return Turn {
-                settled: true,
-                left: passed,
-                q,
-            };
-        }
-    }
-    Turn {
-        settled: false,
-        left,
-        q,
-    }
+    let good = n.length == q.length;
+    Turn::Settled(Left {
+        good,
+        more: good,
+        at: q.next,
+        ahead: binary_references::next_reference(m, of.merged, n.next),
+    })
 }
 
 // What is left after a reference of B that A has with the same length.
 fn pass_known(left: Left, q: NextReference) -> Left
     ensures { result ≡ record { good = true; more = true; at = q.next; ahead = left.ahead } }
 {
-    let ahead = left.ahead;
     Left {
         good: true,
         more: true,
         at: q.next,
-        ahead,
+        ahead: left.ahead,
     }
 }
 
@@ -105,64 +85,49 @@ fn pass_known(left: Left, q: NextReference) -> Left
 fn pass_bad(left: Left, q: NextReference) -> Left
     ensures { result ≡ record { good = false; more = false; at = q.next; ahead = left.ahead } }
 {
-    let ahead = left.ahead;
     Left {
         good: false,
         more: false,
         at: q.next,
-        ahead,
+        ahead: left.ahead,
     }
 }
 
-// What is left after the next reference of B, and where A goes on after the reference found; `near` is false if A does not have it from the cursor
-// on.
+// What is left after the next reference of B, and where A goes on after the reference found.
 #[derive(Clone, Copy)]
 struct Near {
-    near: bool,
     left: Left,
     cursor: usize,
 }
 
-// Passes the next reference of B if it is the next of the merged list, or one of A's from the cursor on.
-fn pass_near(a: &[u8], b: &[u8], m: &[u8], of: Rules, left: Left, cursor: usize) -> Near
+// Passes the next reference of B if it is the next of the merged list, or if A has its name from the cursor on.
+fn pass_near(a: &[u8], b: &[u8], m: &[u8], of: Rules, left: Left, cursor: usize) -> Option<Near>
     requires readable { Readable of a.now b.now m.now }
     requires reached { Reached (sq_from of.a a.now 0) b.now of.merged m.now left }
     requires from { From of.a a.now cursor }
-    ensures passed { result.near ≡ true → Passed
-        (sq_from of.a a.now 0) of.b b.now of.merged m.now left result.left }
-    ensures ahead { result.near ≡ true → result.left.more ≡ true → left.at < result.left.at }
-    ensures behind { From of.a a.now result.cursor }
+    ensures passed { IfSome result (λ x. Passed
+        (sq_from of.a a.now 0) of.b b.now of.merged m.now left x.left) }
+    ensures ahead { IfSome result (λ x. x.left.more ≡ true → left.at < x.left.at) }
+    ensures behind { IfSome result (λ x. From of.a a.now x.cursor) }
 {
-    let turn = pass_new(b, m, of, left);
-    let passed = turn.left;
-    if turn.settled {
-        return Near {
-            near: true,
+    match pass_new(b, m, of, left) {
+        Turn::Settled(passed) => Some(Near {
             left: passed,
             cursor,
-        };
-    }
-    let q = turn.q;
-    let look = merge_references::look_from(a, of.a, cursor, b, q);
-    let met = look.met;
-    let known = pass_known(left, q);
-    let bad = pass_bad(left, q);
-    match met {
-        Met::Nothing => Near {
-            near: false,
-            left,
-            cursor,
-        },
-        Met::Same => Near {
-            near: true,
-            left: known,
-            cursor: look.next,
-        },
-        Met::Other => Near {
-            near: true,
-            left: bad,
-            cursor,
-        },
+        }),
+        Turn::Open(q) => {
+            let look = merge_references::look_from(a, of.a, cursor, b, q)?;
+            if look.same {
+                return Some(Near {
+                    left: pass_known(left, q),
+                    cursor: look.next,
+                });
+            }
+            Some(Near {
+                left: pass_bad(left, q),
+                cursor,
+            })
+        }
     }
 }
 
@@ -176,13 +141,11 @@ fn pass_ordered(a: &[u8], b: &[u8], m: &[u8], of: Rules, from: Left) -> Left
     let mut left = from;
     let mut cursor: usize = 0;
     while left.more {
-        let turn = pass_near(a, b, m, of, left, cursor);
-        if !turn.near {
+        let Some(near) = pass_near(a, b, m, of, left, cursor) else {
             return left;
-        }
-        let passed = turn.left;
-        left = passed;
-        cursor = turn.cursor;
+        };
+        left = near.left;
+        cursor = near.cursor;
     }
     left
 }
@@ -195,21 +158,22 @@ fn pass_marked(a: &[u8], b: &[u8], m: &[u8], of: Rules, left: Left, area: &[u32]
     ensures passed { Passed (sq_from of.a a.now 0) of.b b.now of.merged m.now left result }
     ensures ahead { result.more ≡ true → left.at < result.at }
 {
-    let turn = pass_new(b, m, of, left);
-    let passed = turn.left;
-    if turn.settled {
-        return passed;
-    }
-    let q = turn.q;
-    if merge_hints::is_marked(area, b, left.at, q) {
-        return pass_known(left, q);
-    }
-    let look = merge_references::look_from(a, of.a, 0, b, q);
-    let met = look.met;
-    match met {
-        Met::Nothing => pass_bad(left, q),
-        Met::Same => pass_known(left, q),
-        Met::Other => pass_bad(left, q),
+    match pass_new(b, m, of, left) {
+        Turn::Settled(passed) => passed,
+        Turn::Open(q) => {
+            if merge_hints::is_marked(area, b, left.at, q) {
+                return pass_known(left, q);
+            }
+            match merge_references::look_from(a, of.a, 0, b, q) {
+                Some(look) => {
+                    if look.same {
+                        return pass_known(left, q);
+                    }
+                    pass_bad(left, q)
+                }
+                None => pass_bad(left, q),
+            }
+        }
     }
 }
 
@@ -249,38 +213,19 @@ fn pass_by(a: &[u8], b: &[u8], m: &[u8], of: Rules, from: Left, area: &mut [u32]
     pass_slots(a, b, m, of, from, area)
 }
 
-// A block of 18,432 references, passed `more` times again. Nobody asks for more than once. The function calls itself so that it is compiled as a
-// function of its own: its slots, of 96 KiB here, are on the stack only while it runs, and not in the frames of its callers (see
-// `read_judge::judge_long`).
-fn pass_few(a: &[u8], b: &[u8], m: &[u8], of: Rules, from: Left, more: usize) -> Left
+// Passes a block of B's references with `N` slots. It is compiled apart, so that the slots are on the stack only while it runs, and not in the frames of
+// its callers.
+#[inline(never)]
+fn pass_with<const N: usize>(a: &[u8], b: &[u8], m: &[u8], of: Rules, from: Left) -> Left
     requires readable { Readable of a.now b.now m.now }
     requires reached { Reached (sq_from of.a a.now 0) b.now of.merged m.now from }
     requires good_value { (from.good ≡ true) × (from.more ≡ true) }
+    requires slots { (4 ≤ N) × (N ≤ 33554432) }
     ensures passed { Passed (sq_from of.a a.now 0) of.b b.now of.merged m.now from result }
     ensures ahead { result.more ≡ true → from.at < result.at }
 {
-    let mut area = [0u32; 24576];
-    let left = pass_by(a, b, m, of, from, &mut area);
-    if 0 < more {
-        return pass_few(a, b, m, of, from, more - 1);
-    }
-    left
-}
-
-// A block of 98,304 references, with 512 KiB of slots.
-fn pass_many(a: &[u8], b: &[u8], m: &[u8], of: Rules, from: Left, more: usize) -> Left
-    requires readable { Readable of a.now b.now m.now }
-    requires reached { Reached (sq_from of.a a.now 0) b.now of.merged m.now from }
-    requires good_value { (from.good ≡ true) × (from.more ≡ true) }
-    ensures passed { Passed (sq_from of.a a.now 0) of.b b.now of.merged m.now from result }
-    ensures ahead { result.more ≡ true → from.at < result.at }
-{
-    let mut area = [0u32; 131072];
-    let left = pass_by(a, b, m, of, from, &mut area);
-    if 0 < more {
-        return pass_many(a, b, m, of, from, more - 1);
-    }
-    left
+    let mut area = [0u32; N];
+    pass_by(a, b, m, of, from, &mut area)
 }
 
 // Passes a block of B's references. The block is small if A and B together are short, because every block costs a walk over A.
@@ -292,9 +237,9 @@ fn pass_block(a: &[u8], b: &[u8], m: &[u8], of: Rules, from: Left) -> Left
     ensures ahead { result.more ≡ true → from.at < result.at }
 {
     if a.len() + b.len() <= SHORT {
-        return pass_few(a, b, m, of, from, m.len() / 4294967296);
+        return pass_with::<24576>(a, b, m, of, from);
     }
-    pass_many(a, b, m, of, from, m.len() / 4294967296)
+    pass_with::<131072>(a, b, m, of, from)
 }
 
 // Whether the merged SQ list is A's followed by those of B whose name A lacks, and shared names have equal lengths. No name occurs twice in A's list
@@ -303,11 +248,10 @@ pub fn is_joined(a: &[u8], b: &[u8], m: &[u8], of: Rules) -> bool
     requires { Readable of a.now b.now m.now }
     ensures { result ≡ is_joined (sq_from of.a a.now 0) (sq_from of.b b.now 0) (sq_from of.merged m.now 0) }
 {
-    let front = merge_references::pass_front(a, of.a, m, of.merged);
-    if !front.good {
+    let Some(front) = merge_references::pass_front(a, of.a, m, of.merged) else {
         return false;
-    }
-    let ahead = binary_references::next_reference(m, of.merged, front.next);
+    };
+    let ahead = binary_references::next_reference(m, of.merged, front);
     let start = Left {
         good: true,
         more: true,
@@ -315,15 +259,8 @@ pub fn is_joined(a: &[u8], b: &[u8], m: &[u8], of: Rules) -> bool
         ahead,
     };
     let mut left = pass_ordered(a, b, m, of, start);
-    if left.more {
-        left = pass_block(a, b, m, of, left);
-    }
     while left.more {
         left = pass_block(a, b, m, of, left);
     }
-    if !left.good {
-        return false;
-    }
-    let end = left.ahead;
-    !end.found
+    left.good && left.ahead.is_none()
 }

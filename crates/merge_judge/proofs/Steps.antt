@@ -1,16 +1,19 @@
 -- The definition's steps: the first refusal is the verdict.
-use Prim.Native.Nat.{ℕ, zero, suc, ◌≤◌}
-use mathlib.Core.Path.{◌≡◌, refl, sym, ap, ap₂, ◌∙◌}
-use mathlib.Core.Bool.{Bool, true, false, not, ◌&&◌, cond}
+use Prim.Native.Nat.{ℕ, zero, suc}
+use mathlib.Core.Path.{◌≡◌, refl, sym, ap}
+use mathlib.Core.Bool.{true, false, not, ◌&&◌, cond}
 use mathlib.Core.List.{List}
 use lib.ListN.{length}
 use lib.Dec.{eqb, ltb}
 use borrow.Author.Tests.{eqb-true}
 use Rattle.format.specs.Bytes.{all, distinct}
 use Rattle.format.specs.Records.{Record}
-use Rattle.format.specs.Reading.{read_text, refused_text, accept}
+use Rattle.format.specs.Reading.{read_text, refused_text}
 use Rattle.format.specs.Programs.{programs, links, tangled}
-use Rattle.format.specs.Calls.{Answer, refused, yes, read_answer, records, untangled}
+use Rattle.format.specs.Calls.{read_answer, records, untangled}
+use Rattle.std.specs.Prelude.{Result, Err, ⊤}
+use Rattle.program_parents.specs.Parents.{tangle_of}
+use Rattle.program_parents.proofs.Road.{err-tangled, no-err-untangled}
 use Rattle.accepted.specs.Read.{is_accepted, records_of}
 use Rattle.lists.proofs.Bools.{and_left, and_right}
 use Rattle.accepted.proofs.Read.{accepted-reads}
@@ -28,14 +31,18 @@ module _ (w : Which) (f : List Record → Verdict) where
   unfolding records read_answer about
   read t h = ap (λ r. about w (read_answer r) f) (accepted-reads t h)
 
-  pub tangles : (rs : List Record) (n : ℕ) → n ≡ tangled (links (programs rs)) → (n ≡ 0 → ⊥) → about w (untangled_records rs) f ≡ unfit w n 0
-  unfolding untangled_records about untangled
-  tangles rs zero e d = absurd (d refl)
-  tangles rs (suc n) e d = ap (λ k. about w (untangled rs k) f) (sym e)
+  module _ (rs : List Record) (r : Result ⊤ ℕ) (is : r ≡ tangle_of (links (programs rs))) where
+    pub tangles : (n : ℕ) → r ≡ Err n → about w (untangled_records rs) f ≡ unfit w n 0
+    unfolding untangled_records about untangled
+    tangles n e = let told = err-tangled (links (programs rs)) tt r is n e in go n told.0 told.1
+      where
+        go : (n : ℕ) → n ≡ tangled (links (programs rs)) → (n ≡ 0 → ⊥) → about w (untangled rs (tangled (links (programs rs)))) f ≡ unfit w n 0
+        go zero t d = absurd (d refl)
+        go (suc n) t d = ap (λ k. about w (untangled rs k) f) (sym t)
 
-  pub flows : (rs : List Record) (n : ℕ) → n ≡ tangled (links (programs rs)) → n ≡ 0 → about w (untangled_records rs) f ≡ f rs
-  unfolding untangled_records about untangled
-  flows rs n e d = ap (λ k. about w (untangled rs k) f) (sym e ∙ d)
+    pub flows : ((n : ℕ) → r ≡ Err n → ⊥) → about w (untangled_records rs) f ≡ f rs
+    unfolding untangled_records about untangled
+    flows d = ap (λ k. about w (untangled rs k) f) (no-err-untangled (links (programs rs)) tt r is d)
 
 -- ---- how they go together
 

@@ -1,13 +1,13 @@
 -- The answer as the code gives it, and the steps of the definition.
-use Rattle.std.specs.Prelude.{ℕ, List}
+use Rattle.std.specs.Prelude.{ℕ, List, ⊤, Result, Ok, Err}
 use Rattle.format.specs.Records.{Record}
 use Rattle.format.specs.Calls.{records}
 use Rattle.format.specs.Merge as merge
 use Rattle.format.specs.Merge.{about, text_a, text_b, text_merged, untangled_records, judged_merge}
 use Rattle.merge_judge.specs.declared.Which.{Which}
 use Rattle.merge_judge.specs.declared.Which.TheVariants.{A, B, Merged}
-use Rattle.merge_judge.specs.declared.Verdict.{Verdict}
-use Rattle.merge_judge.specs.declared.Verdict.TheVariants.{Accepted, Unfit, Unmerged}
+use Rattle.merge_judge.specs.declared.MergeRefusal.{MergeRefusal}
+use Rattle.merge_judge.specs.declared.MergeRefusal.TheVariants.{Unfit, Unmerged}
 
 -- which text, and the verdict with its number and line
 unfoldable pub which_of : merge.Which → Which
@@ -15,11 +15,11 @@ which_of merge.text_a = A
 which_of merge.text_b = B
 which_of merge.text_merged = Merged
 
-unfoldable pub verdict_of : merge.Verdict → Verdict
+unfoldable pub verdict_of : merge.Verdict → Result ⊤ MergeRefusal
 unfolding which_of
-verdict_of merge.merged = Accepted
-verdict_of (merge.unfit w n l) = Unfit (which_of w) n (record { 0 = l })
-verdict_of (merge.unmerged n) = Unmerged n
+verdict_of merge.merged = Ok tt
+verdict_of (merge.unfit w n l) = Err (Unfit (which_of w) (record { number = n; line = record { 0 = l } }))
+verdict_of (merge.unmerged n) = Err (Unmerged n)
 
 -- ---- the steps of the definition
 

@@ -10,27 +10,27 @@ ghost use Rattle.format.specs.Merge.{judged_merge, judging_merge};
 ghost use Rattle.merge_programs.specs.Opened.{Untangled};
 ghost use Rattle.merge_judge.specs.Judged.{verdict_of, untangling, after_first, after_second};
 
-use format::LineNo;
+use format::Refusal;
 use merge_joined::Rules;
 use merge_programs::Opened;
-use read_judge::Judged;
 
 // Which of the three texts a refusal is about.
-#[derive(Clone, Copy)]
+#[derive(Clone, Copy, Debug, PartialEq, Eq)]
 pub enum Which {
     A,
     B,
     Merged,
 }
 
-// The merge is accepted; refused because of one of the texts, with a number and a line; or refused because the texts do not fit together, with a
-// number.
-#[derive(Clone, Copy)]
-pub enum Verdict {
-    Accepted,
-    Unfit(Which, u8, LineNo),
+// Why a merge is refused: because of one of the texts; or because the texts do not fit together, with a number.
+#[derive(Clone, Copy, Debug, PartialEq, Eq)]
+pub enum MergeRefusal {
+    Unfit(Which, Refusal),
     Unmerged(u8),
 }
+
+// That the merge is accepted, or why it is not.
+pub type Verdict = Result<(), MergeRefusal>;
 
 // What is known of each of the three accepted texts.
 #[derive(Clone, Copy)]
@@ -71,21 +71,21 @@ fn judge_untangled(
         merged: of_m.strict,
     };
     if !merge_joined::is_joined(a, b, m, rules) {
-        return Verdict::Unmerged(30);
+        return Err(MergeRefusal::Unmerged(30));
     }
     let in_a = of_a.parents;
     let in_b = of_b.parents;
     let in_m = of_m.parents;
     if !merge_lists::is_assigned(in_a.count, in_b.count, in_m.count, list_a, list_b) {
-        return Verdict::Unmerged(31);
+        return Err(MergeRefusal::Unmerged(31));
     }
     if !merge_programs::has_images(a, of_a, m, of_m, list_a) {
-        return Verdict::Unmerged(32);
+        return Err(MergeRefusal::Unmerged(32));
     }
     if !merge_programs::has_images(b, of_b, m, of_m, list_b) {
-        return Verdict::Unmerged(32);
+        return Err(MergeRefusal::Unmerged(32));
     }
-    Verdict::Accepted
+    Ok(())
 }
 
 // Judges three accepted texts: refuses with 22 or 23 for each, then judges whether they fit together.
@@ -107,16 +107,16 @@ fn judge_accepted(
         list_a.now list_b.now) }
 {
     let of_a = merge_programs::open_text(a, rules.a);
-    if of_a.refusal != 0 {
-        return Verdict::Unfit(Which::A, of_a.refusal, LineNo(0));
+    if let Err(number) = of_a.tangle {
+        return Err(MergeRefusal::Unfit(Which::A, Refusal::of_text(number)));
     }
     let of_b = merge_programs::open_text(b, rules.b);
-    if of_b.refusal != 0 {
-        return Verdict::Unfit(Which::B, of_b.refusal, LineNo(0));
+    if let Err(number) = of_b.tangle {
+        return Err(MergeRefusal::Unfit(Which::B, Refusal::of_text(number)));
     }
     let of_m = merge_programs::open_text(m, rules.merged);
-    if of_m.refusal != 0 {
-        return Verdict::Unfit(Which::Merged, of_m.refusal, LineNo(0));
+    if let Err(number) = of_m.tangle {
+        return Err(MergeRefusal::Unfit(Which::Merged, Refusal::of_text(number)));
     }
     let of = Texts {
         a: of_a,
@@ -143,12 +143,12 @@ fn judge_merged(
         list_a.now list_b.now) }
 {
     match read_judge::judge(m) {
-        Judged::Refused(n, line) => Verdict::Unfit(Which::Merged, n, line),
-        Judged::Accepted(_, once) => {
+        Err(refusal) => Err(MergeRefusal::Unfit(Which::Merged, refusal)),
+        Ok(accepted) => {
             let all = Rules {
                 a: rules.a,
                 b: rules.b,
-                merged: once,
+                merged: accepted.once,
             };
             judge_accepted(a, b, m, all, list_a, list_b)
         }
@@ -163,12 +163,15 @@ fn judge_second(a: &[u8], b: &[u8], m: &[u8], rule: bool, list_a: &[u32], list_b
         list_a.now list_b.now) }
 {
     match read_judge::judge(b) {
-        Judged::Refused(n, line) => Verdict::Unfit(Which::B, n, line),
-        Judged::Accepted(_, once) => judge_merged(
+        Err(refusal) => Err(MergeRefusal::Unfit(Which::B, refusal)),
+        Ok(accepted) => judge_merged(
             a,
             b,
             m,
-            Pair { a: rule, b: once },
+            Pair {
+                a: rule,
+                b: accepted.once,
+            },
             list_a,
             list_b,
         ),
@@ -181,7 +184,7 @@ pub fn judge_merge(a: &[u8], b: &[u8], m: &[u8], list_a: &[u32], list_b: &[u32])
         list_a.now list_b.now) }
 {
     match read_judge::judge(a) {
-        Judged::Refused(n, line) => Verdict::Unfit(Which::A, n, line),
-        Judged::Accepted(_, once) => judge_second(a, b, m, once, list_a, list_b),
+        Err(refusal) => Err(MergeRefusal::Unfit(Which::A, refusal)),
+        Ok(accepted) => judge_second(a, b, m, accepted.once, list_a, list_b),
     }
 }

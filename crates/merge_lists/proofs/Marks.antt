@@ -11,7 +11,7 @@ use lib.Dec.{eqb, ltb}
 use borrow.Author.Tests.{eqb-true, eqb-false, eq-eqb, ne_eqb, ltb-true, ltb-false, lt-ltb, le-ltb}
 use Rattle.format.specs.Bytes.{all, any, distinct}
 use Rattle.format.specs.Programs.{numbers_from}
-use Rattle.lists.proofs.Bools.{never, split, eqb-sym, or_assoc, or_comm, or-false, and_left, and_right}
+use Rattle.lists.proofs.Bools.{never, split, eqb-sym, or_assoc, or_comm, or-false}
 use Rattle.format.specs.Merge.{assigns, covers, assigned}
 use Rattle.merge_lists.specs.Marks.{fresh_by, marked_by, hit_from}
 

@@ -14,7 +14,7 @@ use Rattle.format.specs.Fields.{without}
 use Rattle.format.specs.Records.{Record, header, reference, group, program, comment, code, others}
 use Rattle.format.specs.Reading.{read_text, accept, of_kind}
 use Rattle.format.specs.Programs.{Program, root, programs, program_of, link, links}
-use Rattle.format.specs.Merge.{ProgramShape, shape_of, shapes, no_shape}
+use Rattle.format.specs.Merge.{shape_of, shapes, no_shape}
 use Rattle.format.specs.declared.Kind.TheVariants as kinds
 use Rattle.byte_slices.specs.Stands.{Stands, Each}
 use Rattle.byte_slices.proofs.Stands.{lines-stand}
@@ -34,7 +34,7 @@ use Rattle.program_chains.proofs.Walks.{map_at}
 use Rattle.program_parents.specs.Parents.{parents_of}
 use Rattle.program_parents.proofs.Own.{few-programs}
 use Rattle.program_parents.proofs.Numbers.{links-count}
-use Rattle.program_parents.proofs.Road.{none-dangles, lent-count, lent-inside, lent-links, lent-within}
+use Rattle.program_parents.proofs.Road.{none-dangles, ok-untangled, lent-count, lent-inside, lent-links, lent-within}
 use Rattle.program_lines.specs.Found.{may_be_program, program_lines, pg_from, lines_of}
 use Rattle.program_lines.specs.Line.{FieldsOf}
 use Rattle.program_lines.proofs.Accepted.{IsProgram, spelled, fielded, text-program-lines}
@@ -42,7 +42,7 @@ use Rattle.merge_fields.specs.Kept.{kept_from}
 use Rattle.merge_programs.specs.declared.Opened.{Opened}
 use Rattle.merge_programs.specs.declared.Member.{Member}
 use Rattle.merge_programs.specs.Opened.{Untangled}
-use Rattle.merge_programs.specs.Members.{member_of, line_at, shape_at, IsMember}
+use Rattle.merge_programs.specs.Members.{member_of, shape_at, IsMember}
 
 -- ---- lines
 
@@ -115,7 +115,7 @@ module _ (t : List ℕ) (o : Opened) (h : Untangled t o) where
 
   undangled : o.parents.dangling ≡ false
   unfolding parents_of
-  undangled = ap (λ x. x.dangling) h.is.parents-are ∙ none-dangles (links ps) (sym h.is.refusal ∙ h.none)
+  undangled = ap (λ x. x.dangling) h.is.parents-are ∙ none-dangles (links ps) (ok-untangled (links ps) tt _ h.is.refusal tt h.none).0
 
   -- ---- how many there are
 

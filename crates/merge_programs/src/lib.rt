@@ -15,12 +15,12 @@ ghost use Rattle.merge_programs.specs.Members.{member_of, shape_at, IsMember};
 use program_parents::Parents;
 use program_places::Places;
 
-// What an accepted text is judged by: the rule for repeated tags that its lines are read by, 0 or 22 or 23, where the lines of its programs
-// are, and their parents.
+// What an accepted text is judged by: the rule for repeated tags that its lines are read by, whether it is refused with 22 or 23, where
+// the lines of its programs are, and their parents.
 #[derive(Clone, Copy)]
 pub struct Opened {
     pub strict: bool,
-    pub refusal: u8,
+    pub tangle: Result<(), u8>,
     pub lines: Places,
     pub parents: Parents,
 }
@@ -34,10 +34,10 @@ pub fn open_text(text: &[u8], strict: bool) -> Opened
     let programs = gathered.programs;
     let lines = gathered.lines;
     let parents = program_parents::parents_in(text, programs);
-    let refusal = program_parents::tangle(parents);
+    let tangle = program_parents::tangle(&parents);
     Opened {
         strict,
-        refusal,
+        tangle,
         lines,
         parents,
     }
@@ -127,15 +127,12 @@ pub fn has_images(a: &[u8], of_a: Opened, m: &[u8], of_m: Opened, list: &[u32]) 
     let lens_m = lines_m.len;
     let parents_m = of_m.parents;
     let links_m = parents_m.list;
-    let mut i: usize = 0;
-    while i < list.len() {
-        let k = list[i] as usize;
+    for (i, k) in list.iter().enumerate() {
         let p = member_at(of_a.strict, &ats_a, &lens_a, &links_a, i);
-        let image = member_at(of_m.strict, &ats_m, &lens_m, &links_m, k);
+        let image = member_at(of_m.strict, &ats_m, &lens_m, &links_m, *k as usize);
         if !is_image(a, p, m, image, list) {
             return false;
         }
-        i += 1;
     }
     true
 }

@@ -20,22 +20,25 @@ use Rattle.format.specs.References.{Reference, sq_list}
 use Rattle.format.specs.Merge.{same_name, differ}
 use Rattle.binary_references.specs.Next.{sq_from}
 use Rattle.merge_references.specs.Joining.{met_in, Apart, From}
-use Rattle.merge_references.specs.declared.Met.{Met}
-use Rattle.merge_references.specs.declared.Met.TheVariants.{Nothing, Same, Other}
+use Rattle.std.specs.Prelude.{Option, None, Some}
 
 -- ---- one after another
 
 module _ (q : Reference) (rs : List Reference) where
-  pub met-none : rs ≡ [] → met_in q rs ≡ Nothing
+  pub met-none : rs ≡ [] → met_in q rs ≡ None
   unfolding met_in
   met-none e = rw e refl
 
   module _ (r : Reference) (rest : List Reference) (e : rs ≡ r ∷ rest) where
-    pub met-same : same_name q r ≡ true → q.size ≡ r.size → met_in q rs ≡ Same
+    pub met-named : same_name q r ≡ true → met_in q rs ≡ Some (eqb q.size r.size)
+    unfolding met_in
+    met-named n = rw (e, n) refl
+
+    pub met-same : same_name q r ≡ true → q.size ≡ r.size → met_in q rs ≡ Some true
     unfolding met_in
     met-same n s = rw (e, n, eq-eqb q.size r.size s) refl
 
-    pub met-other : same_name q r ≡ true → (q.size ≡ r.size → ⊥) → met_in q rs ≡ Other
+    pub met-other : same_name q r ≡ true → (q.size ≡ r.size → ⊥) → met_in q rs ≡ Some false
     unfolding met_in
     met-other n s = rw (e, n, ne_eqb q.size r.size s) refl
 
@@ -45,15 +48,13 @@ module _ (q : Reference) (rs : List Reference) where
 
 -- ---- all of them
 
-unfoldable is_known : Met → Bool
-is_known Nothing = false
-is_known Same = true
-is_known Other = true
+unfoldable is_known : Option Bool → Bool
+is_known None = false
+is_known (Some t) = true
 
-unfoldable is_other : Met → Bool
-is_other Nothing = false
-is_other Same = false
-is_other Other = true
+unfoldable is_other : Option Bool → Bool
+is_other None = false
+is_other (Some t) = not t
 
 -- the name of one is the name of the other
 any-named : (q r : Reference) (rs : List Reference) → same_name q r ≡ true → any (same_name q) rs ≡ any (same_name r) rs
@@ -73,7 +74,7 @@ unfolding any met_in is_known
 known_is q [] = refl
 known_is q (r ∷ rs) = go (same_name q r) (eqb q.size r.size) (known_is q rs)
   where
-    go : (t u : Bool) → any (same_name q) rs ≡ is_known (met_in q rs) → t || any (same_name q) rs ≡ is_known (cond t (cond u Same Other) (met_in q rs))
+    go : (t u : Bool) → any (same_name q) rs ≡ is_known (met_in q rs) → t || any (same_name q) rs ≡ is_known (cond t (Some u) (met_in q rs))
     go true true ih = refl
     go true false ih = refl
     go false u ih = ih
@@ -83,21 +84,21 @@ unfolding any met_in is_other Apart differ
 other-is q [] h = refl
 other-is q (r ∷ rs) h = go (same_name q r) refl (eqb q.size r.size) (other-is q rs h.1)
   where
-    go : (t : Bool) → same_name q r ≡ t → (u : Bool) → any (differ q) rs ≡ is_other (met_in q rs) → (t && not u) || any (differ q) rs ≡ is_other (cond t (cond u Same Other) (met_in q rs))
+    go : (t : Bool) → same_name q r ≡ t → (u : Bool) → any (differ q) rs ≡ is_other (met_in q rs) → (t && not u) || any (differ q) rs ≡ is_other (cond t (Some u) (met_in q rs))
     go true e true ih = none-differs q rs (any-named q r rs e ∙ h.0)
     go true e false ih = refl
     go false e u ih = ih
 
 module _ (q : Reference) (rs : List Reference) (h : Apart rs) where
-  pub met-nothing : met_in q rs ≡ Nothing → (any (same_name q) rs ≡ false) × (any (differ q) rs ≡ false)
+  pub met-nothing : met_in q rs ≡ None → (any (same_name q) rs ≡ false) × (any (differ q) rs ≡ false)
   unfolding is_known is_other
   met-nothing e = (known_is q rs ∙ ap is_known e, other-is q rs h ∙ ap is_other e)
 
-  pub met-agrees : met_in q rs ≡ Same → (any (same_name q) rs ≡ true) × (any (differ q) rs ≡ false)
+  pub met-agrees : met_in q rs ≡ Some true → (any (same_name q) rs ≡ true) × (any (differ q) rs ≡ false)
   unfolding is_known is_other
   met-agrees e = (known_is q rs ∙ ap is_known e, other-is q rs h ∙ ap is_other e)
 
-  pub met-differs : met_in q rs ≡ Other → any (differ q) rs ≡ true
+  pub met-differs : met_in q rs ≡ Some false → any (differ q) rs ≡ true
   unfolding is_known is_other
   met-differs e = other-is q rs h ∙ ap is_other e
 
@@ -120,11 +121,11 @@ pub met-from : (strict : Bool) (t : List ℕ) (at : ℕ) → From strict t at �
 met-from strict t at f h q n = ap (met_in q) f.joined ∙ met-behind q f.front (sq_from strict t at) (subst Apart f.joined h) n
 
 module _ (strict : Bool) (t : List ℕ) (at : ℕ) (f : From strict t at) (h : Apart (sq_from strict t 0)) (q : Reference) where
-  pub same_from_lem : met_in q (sq_from strict t at) ≡ Same → met_in q (sq_from strict t 0) ≡ Same
+  pub same_from_lem : met_in q (sq_from strict t at) ≡ Some true → met_in q (sq_from strict t 0) ≡ Some true
   unfolding is_known
   same_from_lem e = met-from strict t at f h q (known_is q (sq_from strict t at) ∙ ap is_known e) ∙ e
 
-  pub other_from : met_in q (sq_from strict t at) ≡ Other → met_in q (sq_from strict t 0) ≡ Other
+  pub other_from : met_in q (sq_from strict t at) ≡ Some false → met_in q (sq_from strict t 0) ≡ Some false
   unfolding is_known
   other_from e = met-from strict t at f h q (known_is q (sq_from strict t at) ∙ ap is_known e) ∙ e
 

@@ -1,17 +1,21 @@
 -- What a list of references has of a name, and what is left to judge of a merged list.
-use Rattle.std.specs.Prelude.{ℕ, ◌≤◌, ◌≡◌, Bool, true, false, ◌&&◌, cond, List, [], ◌∷◌, ◌++◌, length, eqb}
+use Rattle.std.specs.Prelude.{ℕ, ◌≤◌, ◌≡◌, Bool, false, ◌&&◌, cond, List, [], ◌∷◌, ◌++◌, length, eqb, Option, None, Some}
 use Rattle.format.specs.Bytes.{any}
 use Rattle.format.specs.References.{Reference, same_references}
 use Rattle.format.specs.Merge.{same_name, agreeing, lacking}
 use Rattle.binary_references.specs.Next.{sq_from}
-use Rattle.merge_references.specs.declared.Met.{Met}
-use Rattle.merge_references.specs.declared.Met.TheVariants.{Nothing, Same, Other}
 
--- the first reference with this name decides
-unfoldable pub met_in : Reference → List Reference → Met
+-- the first reference with this name decides: whether it has the length too
+unfoldable pub met_in : Reference → List Reference → Option Bool
 unfolding same_name
-met_in q [] = Nothing
-met_in q (r ∷ rs) = cond (same_name q r) (cond (eqb q.size r.size) Same Other) (met_in q rs)
+met_in q [] = None
+met_in q (r ∷ rs) = cond (same_name q r) (Some (eqb q.size r.size)) (met_in q rs)
+
+-- the rest of the merged list has these references, if A's are its front
+unfoldable pub after_front : Bool → List ℕ → Option ℕ → List Reference → Bool
+unfolding same_references
+after_front strict m None l = false
+after_front strict m (Some next) l = same_references (sq_from strict m next) l
 
 -- the references from the offset `at` of the text `t` on are the last ones of its list
 pub record From (strict : Bool) (t : List ℕ) (at : ℕ) : Type 0 where

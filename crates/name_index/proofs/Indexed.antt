@@ -1,5 +1,5 @@
 -- A search in the index finds what the plain search finds, in few steps, by the law of slots. Assumes nothing.
-use Rattle.std.proofs.Common.{◌≡◌, ℕ, zero, suc, ◌+◌, ◌*◌, ◌<◌, ◌≤◌, Bool, true, false, cond, List, [], ◌∷◌, ◌++◌, length, get_or, set, replicate, sym, refl, ap, ◌∙◌, subst, ap₂, append_assoc, append-nil, mod-lt, arith, length-append, length-set}
+use Rattle.std.proofs.Common.{◌≡◌, ℕ, zero, suc, ◌+◌, ◌<◌, ◌≤◌, Bool, true, false, cond, List, [], ◌∷◌, ◌++◌, length, get_or, set, replicate, sym, refl, ap, ◌∙◌, subst, ap₂, append_assoc, append-nil, mod-lt, arith, length-append, length-set}
 use lib.ListN.{length-replicate}
 use Rattle.format.specs.Bytes.{same}
 use Rattle.format.specs.Slots.{seat, filled, pick, Held}

@@ -20,13 +20,13 @@ pub fn slot_count(m: u32) -> u32
 fn with_byte(h: u32, b: u8) -> u32
     ensures { result ≡ (33 * h + b) % 2 ^ 32 }
 {
-    let two = std::num::wrapping_add_u32(h, h);
-    let four = std::num::wrapping_add_u32(two, two);
-    let eight = std::num::wrapping_add_u32(four, four);
-    let sixteen = std::num::wrapping_add_u32(eight, eight);
-    let thirty_two = std::num::wrapping_add_u32(sixteen, sixteen);
-    let thirty_three = std::num::wrapping_add_u32(thirty_two, h);
-    std::num::wrapping_add_u32(thirty_three, b as u32)
+    let two = h.wrapping_add(h);
+    let four = two.wrapping_add(two);
+    let eight = four.wrapping_add(four);
+    let sixteen = eight.wrapping_add(eight);
+    let thirty_two = sixteen.wrapping_add(sixteen);
+    let thirty_three = thirty_two.wrapping_add(h);
+    thirty_three.wrapping_add(b as u32)
 }
 
 // The hash of a name.
@@ -34,10 +34,8 @@ pub fn hash(name: &[u8]) -> u32
     ensures { result ≡ hash_from 0 name.now }
 {
     let mut h: u32 = 0;
-    let mut i: usize = 0;
-    while i < name.len() {
-        h = with_byte(h, name[i]);
-        i += 1;
+    for b in name {
+        h = with_byte(h, *b);
     }
     h
 }
@@ -73,13 +71,11 @@ fn free_slot(slots: &[u32], first: usize) -> usize
     ensures { result ≡ seat first slots.now }
 {
     let n = slots.len();
-    let mut i: usize = 0;
-    while i < n {
+    for i in 0..n {
         let at = turned(first, i, n);
         if slots[at] == 0 {
             return at;
         }
-        i += 1;
     }
     turned(first, n, n)
 }

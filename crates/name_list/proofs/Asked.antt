@@ -9,6 +9,8 @@ use lib.Seq.{drop-cons, drop-drop, take_all}
 use native.Mathlib.Numerals.{add-one}
 use lib.Dec.{eqb}
 use borrow.Author.Tests.{eq-eqb, ne_eqb}
+use Rattle.std.specs.Prelude.{count_by, ◌==◌}
+use Rattle.std.proofs.lemmas.List.Recursion.{is_count_by}
 use Rattle.format.specs.Lines.{onto}
 use Rattle.byte_slices.specs.Upto.{upto}
 use Rattle.byte_slices.proofs.Lines.{upto_le}
@@ -101,6 +103,24 @@ module _ (list : List ℕ) where
 
   pub count_left : (length list ≡ 0 → ⊥) → (get_or list (length list - 1) 0 ≡ 10 → ⊥) → length (asked list) ≡ ends list + 1
   count_left h q = last h ∙ ap (λ b. ends list + cond b 0 1) (ne_eqb _ 10 q)
+
+-- the LFs, counted as std does
+pub ends-counted : (s : List ℕ) → ends s ≡ count_by (λ b. b == 10) s
+unfolding ends
+ends-counted s = is_count_by ends (λ b. b == 10) refl (λ b s. go (eqb b 10) (ends s)) s
+  where
+    go : (t : Bool) (n : ℕ) → cond t (suc n) n ≡ cond t (1 + n) n
+    go true n = omega arith
+    go false n = refl
+
+pub ends-few : (s : List ℕ) → ends s ≤ length s
+unfolding ends
+ends-few [] = omega arith
+ends-few (b ∷ s) = go (eqb b 10) (ends-few s)
+  where
+    go : (t : Bool) → ends s ≤ length s → cond t (suc (ends s)) (ends s) ≤ suc (length s)
+    go true h = omega arith
+    go false h = omega arith
 
 -- a walk that counts LFs, at `i`
 module _ (list : List ℕ) (i : ℕ) where

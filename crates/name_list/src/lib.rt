@@ -10,13 +10,11 @@ fn count_block(list: &[u8], at: usize) -> u8
     requires { at + 128 ≤ length list.now }
     ensures { (result ≤ 128) × (ends (drop at list.now) ≡ result + ends (drop (at + 128) list.now)) }
 {
-    let mut i: usize = 0;
     let mut n: u8 = 0;
-    while i < 128 {
+    for i in 0..128 {
         if list[at + i] == b'\n' {
             n += 1;
         }
-        i += 1;
     }
     n
 }
@@ -27,15 +25,7 @@ fn count_rest(list: &[u8], from: usize) -> u32
     requires from_in_bounds { from ≤ length list.now }
     ensures { (result ≤ length list.now) × (result ≡ ends (drop from list.now)) }
 {
-    let mut i = from;
-    let mut n: u32 = 0;
-    while i < list.len() {
-        if list[i] == b'\n' {
-            n += 1;
-        }
-        i += 1;
-    }
-    n
+    list[from..].iter().filter(|b| **b == b'\n').count() as u32
 }
 
 // How many LFs a list has. Whole blocks come first.
@@ -43,13 +33,12 @@ fn count_ends(list: &[u8]) -> u32
     requires { length list.now ≤ 16777216 }
     ensures { result ≡ ends list.now }
 {
-    let mut at: usize = 0;
+    let blocks = list.len() / 128;
     let mut n: u32 = 0;
-    while 128 <= list.len() - at {
-        n += count_block(list, at) as u32;
-        at += 128;
+    for block in 0..blocks {
+        n += count_block(list, block * 128) as u32;
     }
-    n + count_rest(list, at)
+    n + count_rest(list, blocks * 128)
 }
 
 // How many names a list has. Each LF ends a name, and bytes after the last LF are one more name.
@@ -58,11 +47,10 @@ pub fn count_names(list: &[u8]) -> usize
     ensures { result ≡ length (asked list.now) }
 {
     let n = count_ends(list) as usize;
-    let len = list.len();
-    if len == 0 {
+    let Some(last) = list.last() else {
         return n;
-    }
-    if list[len - 1] == b'\n' {
+    };
+    if *last == b'\n' {
         return n;
     }
     n + 1 // no LF ends the last

@@ -41,8 +41,7 @@ pub fn find_slot(text: &[u8], slots: &[u32], name: &[u8]) -> Looked
     let number = name_index::hash(name);
     let told = name_slots::check_bits(number);
     let first = name_index::first_slot(number, n);
-    let mut i: usize = 0;
-    while i < n {
+    for i in 0..n {
         let at = name_index::turned(first, i, n);
         let v = slots[at];
         if v == 0 {
@@ -57,7 +56,6 @@ pub fn find_slot(text: &[u8], slots: &[u32], name: &[u8]) -> Looked
                 looks: (i + 1) as u32, // and no slot after it
             };
         }
-        i += 1;
     }
     Looked {
         slot: ABSENT,
@@ -84,9 +82,7 @@ fn ordinal_at(slots: &[u32], p: u32) -> u32
 pub fn to_ordinals(slots: &[u32], out: &mut [u32])
     ensures { out.new ≡ map (ordinal_at slots.now) out.old }
 {
-    let mut i: usize = 0;
-    while i < out.len() {
-        out[i] = ordinal_at(slots, out[i]);
-        i += 1;
+    for p in out.iter_mut() {
+        *p = ordinal_at(slots, *p);
     }
 }

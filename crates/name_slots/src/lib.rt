@@ -105,13 +105,11 @@ fn put_ordinals(notes: &[u32], slots: &mut [u32])
     requires { length notes.now ≤ 4294967294 }
     ensures { slots.new ≡ with_ordinals 0 notes.now slots.old }
 {
-    let mut k: usize = 0;
-    while k < notes.len() {
+    for k in 0..notes.len() {
         let at = notes[k] as usize;
         if at < slots.len() {
             slots[at] = (k + 1) as u32;
         }
-        k += 1;
     }
 }
 

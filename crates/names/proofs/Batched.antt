@@ -5,10 +5,11 @@ use mathlib.Core.List.{List, ◌++◌, map}
 use native.Mathlib.Omega.{arith}
 use lib.ListN.{length, drop, length-map}
 use borrow.Author.Tests.{lt-ltb, le-ltb}
+use Rattle.std.specs.Prelude.{Result, Ok, Err}
 use Rattle.format.specs.Reading.{longest}
 use Rattle.format.specs.Calls.{Answer, refused, yes, then, fresh}
 use Rattle.byte_slices.specs.Stands.{Each}
-use Rattle.format.specs.declared.LineNo.{LineNo}
+use Rattle.format.specs.declared.Refusal.{Refusal}
 use Rattle.accepted.specs.Read.{records_of}
 use Rattle.catalogue_entries.specs.Entries.{entries_in, counted}
 use Rattle.read.specs.Answers.{output_of}
@@ -22,7 +23,7 @@ use Rattle.name_entries.proofs.Names.{names-counted}
 use Rattle.format.specs.Asked.{asked}
 use Rattle.format.specs.Summed.{summed}
 use Rattle.format.specs.Batch.{references, batched, batching}
-use Rattle.names.specs.declared.NamesAnswer.TheVariants.{Refused, Counted}
+use Rattle.names.specs.declared.Counted.{Counted}
 use Rattle.names.specs.Answers.{names_of, results_of, slots_of}
 use Rattle.names.proofs.References.{text-names, few-names}
 use Rattle.names.proofs.NameEnds.{text-told}
@@ -92,13 +93,13 @@ module _ (t c : List ℕ) (own : Current t c) where
 -- ---- what an answer says, and leaves in the work area and in the result list
 
 module _ (b : Answer (List ℕ × List ℕ × ℕ)) (work out : List ℕ) where
-  pub told-refusal : (n : ℕ) (l : LineNo) → b ≡ refused n l.0 → (Refused n l ≡ names_of b) × ((work ≡ output_of (slots_of b) work) × (out ≡ output_of (results_of b) out))
+  pub told-refusal : (r : Refusal) → b ≡ refused r.number r.line.0 → (Err r ≡ names_of b) × ((work ≡ output_of (slots_of b) work) × (out ≡ output_of (results_of b) out))
   unfolding names_of slots_of results_of output_of
-  told-refusal n l e = (sym (ap names_of e), (sym (ap (λ a. output_of (slots_of a) work) e), sym (ap (λ a. output_of (results_of a) out) e)))
+  told-refusal r e = (sym (ap names_of e), (sym (ap (λ a. output_of (slots_of a) work) e), sym (ap (λ a. output_of (results_of a) out) e)))
 
   pub told-answer : (found slots : List ℕ) (looks : ℕ) → b ≡ yes (found, slots, looks) → (count : ℕ) → count ≡ length found → (sum : ℕ) → sum ≡ looks
       → (work₁ out₁ : List ℕ) → work₁ ≡ slots ++ drop (length slots) work → out₁ ≡ found ++ drop (length found) out
-      → (Counted count sum ≡ names_of b) × ((work₁ ≡ output_of (slots_of b) work) × (out₁ ≡ output_of (results_of b) out))
+      → (◌≡◌ {A = Result Counted Refusal} (Ok (record { names = count; looks = sum })) (names_of b)) × ((work₁ ≡ output_of (slots_of b) work) × (out₁ ≡ output_of (results_of b) out))
   unfolding names_of slots_of results_of output_of
   told-answer found slots looks e count n sum m work₁ out₁ w o =
       (rw (n, m) (sym (ap names_of e)), (w ∙ sym (ap (λ a. output_of (slots_of a) work) e), o ∙ sym (ap (λ a. output_of (results_of a) out) e)))

@@ -1,13 +1,13 @@
 -- The answer of a batch in the code's numbers, and what the call leaves in the result list and in the work area.
-use Rattle.std.specs.Prelude.{ℕ, List, length}
+use Rattle.std.specs.Prelude.{ℕ, List, length, Result, Ok, Err}
 use Rattle.format.specs.Calls.{Answer, refused, yes}
-use Rattle.names.specs.declared.NamesAnswer.{NamesAnswer}
-use Rattle.names.specs.declared.NamesAnswer.TheVariants.{Refused, Counted}
+use Rattle.format.specs.declared.Refusal.{Refusal}
+use Rattle.names.specs.declared.Counted.{Counted}
 
--- a refusal and its line, or how many names are answered and how many slots were looked at
-unfoldable pub names_of : Answer (List ℕ × List ℕ × ℕ) → NamesAnswer
-names_of (refused n l) = Refused n (record { 0 = l })
-names_of (yes a) = Counted (length a.0) a.2
+-- how many names are answered and how many slots were looked at, or a refusal and its line
+unfoldable pub names_of : Answer (List ℕ × List ℕ × ℕ) → Result Counted Refusal
+names_of (refused n l) = Err (record { number = n; line = record { 0 = l } })
+names_of (yes a) = Ok (record { names = length a.0; looks = a.2 })
 
 -- the ordinals in an answer
 unfoldable pub results_of : Answer (List ℕ × List ℕ × ℕ) → Answer (List ℕ)

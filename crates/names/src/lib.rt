@@ -9,15 +9,17 @@ ghost use Rattle.read.specs.Answers.{output_of};
 ghost use Rattle.format.specs.Batch.{batching};
 ghost use Rattle.names.specs.Answers.{names_of, results_of, slots_of};
 
-use format::LineNo;
-use read::Checked;
+use format::Refusal;
 
-// A refusal and its line, or how many names were answered and how many slots were looked at.
-#[derive(Clone, Copy)]
-pub enum NamesAnswer {
-    Refused(u8, LineNo),
-    Counted(usize, u64),
+// How many names were answered, and how many slots were looked at.
+#[derive(Clone, Copy, Debug, PartialEq, Eq)]
+pub struct Counted {
+    pub names: usize,
+    pub looks: u64,
 }
+
+// What was counted, or why nothing was answered.
+pub type NamesAnswer = Result<Counted, Refusal>;
 
 // Writes the ordinal among the SQ lines of each name of a list to the front of `out`, or 4294967295, and the index of the SQ names to the front of
 // `work`. The slots that the searches looked at are counted. The refusals, in this order: those of reading, 21, 1 for a list that is too long, 20 for
@@ -38,24 +40,20 @@ pub fn names(
         (results_of (batching text.now catalogue.now list.now (length work.old) (length out.old)))
         out.old }
 {
-    match read::check(text, catalogue) {
-        Checked::Refused(n, line) => NamesAnswer::Refused(n, line),
-        Checked::Fresh => {
-            if format::LONGEST < list.len() {
-                return NamesAnswer::Refused(1, LineNo(0));
-            }
-            let room = work.len();
-            let m = name_entries::count(catalogue);
-            let n = name_index::slot_count(m as u32) as usize;
-            if room < n {
-                return NamesAnswer::Refused(20, LineNo(0));
-            }
-            let count = name_list::count_names(list);
-            if out.len() < count {
-                return NamesAnswer::Refused(20, LineNo(0));
-            }
-            let looks = answer::answer(text, catalogue, m, list, &mut work[..n], &mut out[..count]);
-            NamesAnswer::Counted(count, looks)
-        }
+    read::check(text, catalogue)?;
+    if format::LONGEST < list.len() {
+        return Err(Refusal::of_text(1));
     }
+    let room = work.len();
+    let m = name_entries::count(catalogue);
+    let n = name_index::slot_count(m as u32) as usize;
+    if room < n {
+        return Err(Refusal::of_text(20));
+    }
+    let names = name_list::count_names(list);
+    if out.len() < names {
+        return Err(Refusal::of_text(20));
+    }
+    let looks = answer::answer(text, catalogue, m, list, &mut work[..n], &mut out[..names]);
+    Ok(Counted { names, looks })
 }

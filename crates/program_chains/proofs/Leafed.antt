@@ -1,18 +1,17 @@
 -- The leaves satisfy their laws.
-use Prim.Native.Nat.{ℕ, ◌+◌, ◌≤◌, ◌<◌}
+use Prim.Native.Nat.{ℕ, ◌+◌}
 use mathlib.Core.Path.{◌≡◌, refl, sym, ap, ◌∙◌}
-use mathlib.Core.Logic.{◌↔◌}
-use mathlib.Core.Bool.{Bool, true, false, not, ◌&&◌, ◌||◌, cond, false≢true, true≢false}
+use mathlib.Core.Bool.{Bool, true, false, not, ◌&&◌, ◌||◌, cond, false≢true}
 use mathlib.Core.List.{List, [], ◌∷◌, map}
 use mathlib.Core.Option.{Option, none, some}
 use native.Mathlib.Omega.{arith}
 use lib.ListN.{length, length-map}
 use lib.Dec.{eqb, ltb}
-use borrow.Author.Tests.{ltb-true, ltb-false, lt-ltb, le-ltb}
+use borrow.Author.Tests.{ltb-true, ltb-false}
 use Rattle.format.specs.Bytes.{same, any, distinct}
 use Rattle.format.specs.Lines.{Piece}
 use Rattle.format.specs.Records.{Record}
-use Rattle.format.specs.Programs.{Program, Link, found, link, links, programs, ordinal_from, is_dangling, loops_from, tangled, leaves, hops}
+use Rattle.format.specs.Programs.{Program, found, link, links, programs, ordinal_from, is_dangling, loops_from, tangled, leaves, hops}
 use Rattle.format.specs.Calls.{Answer, refused, yes, then, fitting, untangled, fresh, leafing}
 use Rattle.program_chains.specs.Listed.{named}
 use Rattle.program_chains.specs.Leafed.{is_stray, strays, returns, Leaves, Leafed, AllLeafed}

@@ -19,11 +19,9 @@ fn counting(n: usize) -> [u32; 1024]
     requires { n ≤ 1024 }
     ensures { result ≡ in_array (numbers_from 0 n) }
 {
-    let mut list: [u32; 1024] = [0; 1024];
-    let mut i: usize = 0;
-    while i < n {
+    let mut list = [0u32; 1024];
+    for i in 0..n {
         list[i] = i as u32;
-        i += 1;
     }
     list
 }
@@ -58,12 +56,10 @@ pub fn leaves(parents: &[u32]) -> Ordinals
     requires parents_len_bound { length parents.now ≤ 1024 }
     ensures { (result.list ≡ in_array (leaves (links_of parents.now))) × (result.count ≡ length (leaves (links_of parents.now))) }
 {
-    let mut list: [u32; 1024] = counting(parents.len());
-    let mut places: [u32; 1024] = counting(parents.len());
-    let mut count: usize = parents.len();
-    let mut i: usize = 0;
-    while i < parents.len() {
-        let k = parents[i];
+    let mut list = counting(parents.len());
+    let mut places = counting(parents.len());
+    let mut count = parents.len();
+    for &k in parents {
         if k != NOBODY {
             let at = place(&list[..count], &places, k);
             if at < count {
@@ -74,7 +70,6 @@ pub fn leaves(parents: &[u32]) -> Ordinals
                 places[last as usize] = at as u32;
             }
         }
-        i += 1;
     }
     Ordinals { list, count }
 }
@@ -84,15 +79,13 @@ pub fn roots(parents: &[u32]) -> Ordinals
     requires { length parents.now ≤ 1024 }
     ensures { (result.list ≡ in_array (roots (links_of parents.now))) × (result.count ≡ length (roots (links_of parents.now))) }
 {
-    let mut list: [u32; 1024] = [0; 1024];
+    let mut list = [0u32; 1024];
     let mut count: usize = 0;
-    let mut i: usize = 0;
-    while i < parents.len() {
-        if parents[i] == NOBODY {
+    for (i, &parent) in parents.iter().enumerate() {
+        if parent == NOBODY {
             list[count] = i as u32;
             count += 1;
         }
-        i += 1;
     }
     Ordinals { list, count }
 }

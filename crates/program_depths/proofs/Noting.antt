@@ -2,13 +2,14 @@
 use Prim.Native.Nat.{ℕ, zero, suc, ◌+◌, ◌-◌, ◌≤◌, ◌<◌}
 use mathlib.Core.Path.{◌≡◌, refl, sym, ap, ap₂, subst, ◌∙◌}
 use mathlib.Core.Bool.{Bool, true, false, cond}
-use mathlib.Core.List.{List, [], ◌++◌, map}
+use mathlib.Core.List.{List, ◌++◌, map}
 use native.Mathlib.Omega.{arith}
 use native.Mathlib.Numerals.{add-one}
 use lib.ListN.{length, get_or, set, drop, replicate, get_or-replicate, length-replicate, length-map, drop_of_length-le, get_or-eq_default}
 use lib.Seq.{get_or-set_same, get_or-set_other, get_or-append-add, ext_get_or, drop-cons}
 use lib.Dec.{eqb, ltb}
 use borrow.Author.Tests.{eqb-true, eqb-false, ltb-true, ltb-false}
+use Rattle.std.specs.Prelude.{Option, Some, None, is_none}
 use Rattle.format.specs.Programs.{Link, root, loops_from, depth, depths, hops}
 use Rattle.program_chains.specs.Parents.{link_of, links_of, in_array}
 use Rattle.program_chains.proofs.Arrays.{array_at, array-length}
@@ -138,11 +139,10 @@ module _ (ps : List ℕ) (i : ℕ) where
 
 -- ---- what is answered for a cycle
 
-pub cycle-is : (ls : List Link) (d : Depths) → d ≡ depths_of ls → d.cycle ≡ loops_from ls 0 ls
+pub cycle-is : (ls : List Link) (d : Option Depths) → d ≡ depths_of ls → is_none d ≡ loops_from ls 0 ls
 unfolding depths_of
-cycle-is ls d e =
-    ap (λ x. x.cycle) e ∙ go (record { list = in_array []; hops = 0; cycle = true }) (record { list = in_array (map (depth ls (length ls)) ls); hops = hops ls; cycle = false }) (loops_from ls 0 ls) refl refl
+cycle-is ls d e = ap is_none e ∙ go (record { list = in_array (map (depth ls (length ls)) ls); hops = hops ls }) (loops_from ls 0 ls)
   where
-    go : (a b : Depths) (t : Bool) → a.cycle ≡ true → b.cycle ≡ false → (cond t a b).cycle ≡ t
-    go a b true p q = p
-    go a b false p q = q
+    go : (b : Depths) (t : Bool) → is_none (cond t None (Some b)) ≡ t
+    go b true = refl
+    go b false = refl

@@ -1,5 +1,5 @@
 -- Depths of programs, from a list of their parents, in an array in which some of them are known.
-use Rattle.std.specs.Prelude.{ℕ, ◌<◌, ◌≡◌, true, false, cond, List, [], map, length, get_or}
+use Rattle.std.specs.Prelude.{ℕ, ◌<◌, ◌≡◌, cond, Option, Some, None, List, map, length, get_or}
 use Rattle.format.specs.Programs.{Link, loops_from, depth, hops}
 use Rattle.program_chains.specs.Parents.{link_of, links_of, in_array}
 use Rattle.program_depths.specs.declared.Depths.{Depths}
@@ -17,10 +17,10 @@ KnownRight ps ds = (k : ℕ) → k < length ps → (get_or ds k 0 ≡ 4294967295
 abbrev pub KnownStay : List ℕ → List ℕ → Type 0
 KnownStay ds es = (k : ℕ) → (get_or ds k 0 ≡ 4294967295 → ⊥) → get_or es k 0 ≡ get_or ds k 0
 
--- the depth of every program, and the hops: none if a program comes back to itself
-unfoldable pub depths_of : List Link → Depths
+-- the depth of every program, and the hops: `None` if a program comes back to itself
+unfoldable pub depths_of : List Link → Option Depths
 unfolding in_array loops_from depth hops
 depths_of ls =
     cond (loops_from ls 0 ls)
-    (record { list = in_array []; hops = 0; cycle = true })
-    (record { list = in_array (map (depth ls (length ls)) ls); hops = hops ls; cycle = false })
+    None
+    (Some (record { list = in_array (map (depth ls (length ls)) ls); hops = hops ls }))

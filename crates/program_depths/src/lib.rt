@@ -5,7 +5,7 @@ ghost use Rattle.std.specs.Prelude.{◌≡◌, true, false, ◌≤◌, ◌<◌, 
 ghost use Rattle.program_chains.specs.Parents.{links_of, are_parents, in_array};
 ghost use Rattle.program_depths.specs.Depths.{deep, KnownRight, KnownStay, depths_of};
 
-// The depth of a program whose depth is not known yet.
+// The depth of a program whose depth is not known yet. Not an `Option`, which would double the array's memory on the stack.
 pub const UNKNOWN: u32 = 4294967295;
 
 // The number of parent links from program `i` to its root, at most n. The walk stops early at a program whose depth is known.
@@ -16,26 +16,20 @@ fn climb(parents: &[u32], depths: &[u32; 1024], i: usize) -> u32
     requires known_right { KnownRight parents.now depths.now }
     ensures { result ≡ deep parents.now i }
 {
-    let mut at: u32 = parents[i];
-    let mut steps: u32 = 0;
-    let mut left: usize = parents.len();
-    while 0 < left {
+    let most = parents.len() as u32;
+    let mut at = parents[i];
+    for steps in 0..most {
         if at == program_chains::NOBODY {
             return steps;
         }
         let k = at as usize;
         let known = depths[k];
         if known != UNKNOWN {
-            if (known as usize) < left {
-                return steps + 1 + known;
-            }
-            return parents.len() as u32;
+            return most.min(steps + 1 + known);
         }
         at = parents[k];
-        steps += 1;
-        left -= 1;
     }
-    steps
+    most
 }
 
 // Notes the depths of the programs above `i`, whose own depth is `d`, up to one whose depth is known.
@@ -48,15 +42,13 @@ fn settle(parents: &[u32], depths: &mut [u32; 1024], i: usize, d: u32)
     ensures kept { KnownStay depths.old depths.new }
     ensures sized { length depths.new ≡ length depths.old }
 {
-    let mut at: usize = i;
-    let mut left: u32 = d;
-    while 0 < left {
+    let mut at = i;
+    for depth in (0..d).rev() {
         let k = parents[at] as usize;
         if depths[k] != UNKNOWN {
             return;
         }
-        left -= 1;
-        depths[k] = left;
+        depths[k] = depth;
         at = k;
     }
 }
@@ -90,47 +82,34 @@ fn unknown(n: usize) -> [u32; 1024]
     requires { n ≤ 1024 }
     ensures { result ≡ in_array (replicate n 4294967295) }
 {
-    let mut list: [u32; 1024] = [0; 1024];
-    let mut at: usize = 0;
-    while at < n {
+    let mut list = [0u32; 1024];
+    for at in 0..n {
         list[at] = UNKNOWN;
-        at += 1;
     }
     list
 }
 
-// The depth of each program in order, their sum, and whether some program comes back to itself. In that case the other depths are zeros.
+// The depth of each program in order, and their sum.
 #[derive(Clone, Copy)]
 pub struct Depths {
     pub list: [u32; 1024],
     pub hops: u32,
-    pub cycle: bool,
 }
 
+// The depths of all programs. None if some program comes back to itself.
 #[inline(never)]
-pub fn find_depths(parents: &[u32]) -> Depths
+pub fn find_depths(parents: &[u32]) -> Option<Depths>
     requires parents_value { are_parents (length parents.now) parents.now ≡ true }
     requires parents_len_bound { length parents.now ≤ 1024 }
     ensures { result ≡ depths_of (links_of parents.now) }
 {
-    let mut list: [u32; 1024] = unknown(parents.len());
-    let mut sum: u32 = 0;
-    let mut i: usize = 0;
-    while i < parents.len() {
+    let mut list = unknown(parents.len());
+    let mut hops: u32 = 0;
+    for i in 0..parents.len() {
         if !learn(parents, &mut list, i) {
-            let none: [u32; 1024] = [0; 1024];
-            return Depths {
-                list: none,
-                hops: 0,
-                cycle: true,
-            };
+            return None;
         }
-        sum += list[i];
-        i += 1;
+        hops += list[i];
     }
-    Depths {
-        list,
-        hops: sum,
-        cycle: false,
-    }
+    Some(Depths { list, hops })
 }

@@ -6,7 +6,6 @@ use native.Mathlib.Omega.{arith}
 use native.Mathlib.Numerals.{add-one, add-two}
 use lib.ListN.{length, take, drop, get_or, set, length-map}
 use lib.Seq.{sets-eq, take_all, take-suc, length-take-le}
-use Rattle.byte_slices.specs.Stands.{Each}
 use Rattle.byte_slices.specs.Over.{over}
 use Rattle.byte_slices.proofs.Over.{over-length, over_none, over-take, over-over}
 use Rattle.lists.proofs.Pairs.{each_at}

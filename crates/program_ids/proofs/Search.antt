@@ -1,19 +1,19 @@
 -- The laws of the search for a program: the IDs come one after another, and what is still ahead decides.
-use Prim.Native.Nat.{ℕ, ◌+◌, ◌-◌, ◌*◌, ◌≤◌, ◌<◌}
+use Prim.Native.Nat.{ℕ, ◌+◌, ◌*◌, ◌≤◌, ◌<◌}
 use mathlib.Core.Path.{◌≡◌, refl, sym, ap, ◌∙◌}
-use mathlib.Core.Bool.{Bool, true, false, cond}
+use mathlib.Core.Bool.{true, false, cond}
 use mathlib.Core.List.{List, [], ◌∷◌}
 use mathlib.Core.Option.{none, some}
 use native.Mathlib.Omega.{arith}
 use native.Mathlib.Numerals.{add-one}
-use lib.ListN.{length, take, drop, get_or, drop_of_length-le}
+use lib.ListN.{length, drop, get_or, drop_of_length-le}
 use lib.Seq.{drop-cons}
 use Rattle.format.specs.Bytes.{same}
 use Rattle.format.specs.Programs.{Program, ordinal_from}
 use Rattle.byte_slices.proofs.Equal.{same-other}
 use Rattle.program_ids.specs.Ids.{id_number, ids_at, IdsInText}
 use Rattle.program_ids.specs.Search.{ids_of, id_ordinal_from}
-use Rattle.program_ids.proofs.Ids.{ids_at_lem, ids-number}
+use Rattle.program_ids.proofs.Ids.{ids-number}
 
 -- ---- one after another
 
@@ -45,17 +45,11 @@ module _ (t ids id : List ℕ) (p : IdsInText t ids) (k : ℕ) (h : k < length (
   turn-other n = ahead-on id (ids_at t ids) k a h (same-other id (get_or (ids_at t ids) k []) (λ e. n (ids-number t ids p k h ∙ ap id_number (sym e))))
 
   -- whether the bytes are those of the ID
-  module _ (b : Bool) (e : b ≡ same id (take (get_or ids (k * 3) 0 + get_or ids (k * 3 + 1) 0 - get_or ids (k * 3) 0) (drop (get_or ids (k * 3) 0) t))) where
-    bytes : same id (get_or (ids_at t ids) k []) ≡ b
-    bytes =
-        let z : get_or ids (k * 3 + 1) 0 ≡ get_or ids (k * 3) 0 + get_or ids (k * 3 + 1) 0 - get_or ids (k * 3) 0 = omega arith in
-        ap (same id) (ids_at_lem t ids p k h ∙ ap (λ n. take n (drop (get_or ids (k * 3) 0) t)) z) ∙ sym e
+  pub turn-here : same id (get_or (ids_at t ids) k []) ≡ true → id_ordinal_from id 0 (ids_at t ids) ≡ some k
+  turn-here q = ahead-here id (ids_at t ids) k a h q
 
-    pub turn-here : b ≡ true → id_ordinal_from id 0 (ids_at t ids) ≡ some k
-    turn-here q = ahead-here id (ids_at t ids) k a h (bytes ∙ q)
-
-    pub turn-differs : b ≡ false → Ahead id (ids_at t ids) (k + 1)
-    turn-differs q = ahead-on id (ids_at t ids) k a h (bytes ∙ q)
+  pub turn-differs : same id (get_or (ids_at t ids) k []) ≡ false → Ahead id (ids_at t ids) (k + 1)
+  turn-differs q = ahead-on id (ids_at t ids) k a h q
 
 -- ---- the IDs of programs
 

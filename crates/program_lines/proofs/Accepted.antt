@@ -3,23 +3,20 @@ use Prim.Native.Nat.{ℕ, ◌+◌, ◌≤◌}
 use mathlib.Core.Path.{◌≡◌, refl, sym, ap, subst, ◌∙◌}
 use mathlib.Core.Bool.{Bool, true, false, cond}
 use mathlib.Core.List.{List, [], ◌∷◌}
-use native.Mathlib.Omega.{arith}
-use lib.ListN.{length, get_or}
+use lib.ListN.{length}
 use lib.Dec.{eqb}
 use Rattle.format.specs.Lines.{Piece, lines}
 use Rattle.format.specs.Records as records
 use Rattle.format.specs.Records.{Record, header, reference, group, program, comment, code, read}
 use Rattle.format.specs.Reading.{accept, read_text, of_kind}
-use Rattle.byte_slices.specs.Stands.{Each}
 use Rattle.lists.specs.Pairs.{Pairs}
 use Rattle.accepted.specs.Sound.{kind}
 use Rattle.accepted.specs.Spelled as sp
 use Rattle.accepted.specs.Spelled.{AcceptedLine, Spelled, kind₀}
-use Rattle.lists.proofs.Bools.{never, split}
+use Rattle.lists.proofs.Bools.{never}
 use Rattle.accepted.proofs.Spelled.{line-accepted}
 use Rattle.accepted_rule.specs.Rule.{ReadsBy}
 use Rattle.accepted_rule.proofs.Rule.{lines-by}
-use Rattle.lists.proofs.Pairs.{pairs-left}
 use Rattle.accepted_line.proofs.fields.Start.{accepted-start, accepted-tags}
 use Rattle.binary_references.proofs.Next.{second-byte}
 use Rattle.program_lines.specs.Line.{FieldsOf}

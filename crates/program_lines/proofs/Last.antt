@@ -1,14 +1,14 @@
 -- The last value of a tag is in the line, or there is none.
-use Prim.Native.Nat.{ℕ, ◌+◌, ◌-◌, ◌≤◌, ◌<◌, ◌^◌}
-use mathlib.Core.Path.{◌≡◌, refl, sym, ap, subst, ◌∙◌}
+use Prim.Native.Nat.{ℕ, ◌+◌, ◌≤◌, ◌<◌}
+use mathlib.Core.Path.{◌≡◌, refl, subst}
 use mathlib.Core.Bool.{Bool}
 use mathlib.Core.List.{List}
 use mathlib.Core.Option.{Option, none, some}
 use native.Mathlib.Omega.{arith}
 use lib.ListN.{length, drop, length-drop}
 use Rattle.format.specs.Lines.{Piece}
-use Rattle.format.specs.Fields.{Field, last_of}
-use Rattle.byte_slices.specs.Stands.{Stands, Each}
+use Rattle.format.specs.Fields.{last_of}
+use Rattle.byte_slices.specs.Stands.{Stands}
 use Rattle.accepted.proofs.Fields.{Of, last_of-of}
 use Rattle.accepted_line.specs.Run.{AtField, fields_from}
 use Rattle.accepted_line.specs.Next.{last_in, or_value}

@@ -1,14 +1,14 @@
 -- The laws of gathering: a step passes a PG line, which goes to the end of the arrays.
-use Prim.Native.Nat.{ℕ, suc, ◌+◌, ◌-◌, ◌≤◌, ◌<◌, ◌^◌}
-use mathlib.Core.Path.{◌≡◌, refl, sym, ap, ap₂, subst, ◌∙◌}
-use mathlib.Core.Bool.{Bool, true, false}
+use Prim.Native.Nat.{ℕ, suc, ◌+◌, ◌-◌, ◌≤◌, ◌<◌}
+use mathlib.Core.Path.{◌≡◌, refl, sym, ap, subst, ◌∙◌}
+use mathlib.Core.Bool.{Bool, true}
 use mathlib.Core.List.{List, [], ◌∷◌, ◌++◌, map, map-map, append-nil}
 use native.Mathlib.Omega.{arith}
 use lib.ListN.{length, take, drop, set, replicate, length-append, length-map, length-drop}
 use lib.Seq.{append_snoc, length-take-le}
 use Rattle.format.specs.Lines.{Piece}
 use Rattle.format.specs.Records.{Record}
-use Rattle.format.specs.Reading.{read_text, accept, of_kind}
+use Rattle.format.specs.Reading.{read_text, of_kind}
 use Rattle.accepted_rule.specs.Rule.{ReadsBy}
 use Rattle.byte_slices.specs.Stands.{Each}
 use Rattle.accepted.specs.Read.{is_accepted, records_of}
@@ -22,11 +22,11 @@ use Rattle.accepted_line.specs.Next.{last_in}
 use Rattle.program_places.specs.declared.Places.{Places}
 use Rattle.program_places.specs.declared.Programs.{Programs}
 use Rattle.program_places.proofs.Noting.{map_snoc}
-use Rattle.program_places.specs.Gathered.{ProgramPlaces, arrays_of, gathered_of}
+use Rattle.program_places.specs.Gathered.{arrays_of, gathered_of}
 use Rattle.program_lines.specs.Line.{FieldsOf}
-use Rattle.program_lines.specs.Found.{program_lines, pg_from, told_line, told_lines, place_of, previous_of, notes_of, lines_of, NextLineInText}
+use Rattle.program_lines.specs.Found.{pg_from, told_line, told_lines, place_of, previous_of, notes_of, lines_of, NextLineInText}
 use Rattle.program_lines.specs.declared.NextLine.{NextLine}
-use Rattle.program_lines.proofs.Next.{told-one, told_none}
+use Rattle.std.specs.Prelude.{Some, None}
 use Rattle.program_lines.proofs.Accepted.{IsProgram, fielded, text-program-lines}
 
 -- ---- arrays
@@ -100,22 +100,24 @@ whole-lines : (ps : List Piece) (starts sizes : List ℕ) → Kept (λ p. p.at) 
 unfolding lines_of
 whole-lines ps starts sizes a b = rw (a, b) refl
 
-module _ (t : List ℕ) (strict : Bool) (starts sizes ats lens from widths : List ℕ) (count at : ℕ) (x : Listed t strict starts sizes ats lens from widths count at) (r : NextLine) (e : pg_from t at ≡ told_lines t r) where
-  pub listed-all : r.found ≡ false
+module _ (t : List ℕ) (strict : Bool) (starts sizes ats lens from widths : List ℕ) (count at : ℕ) (x : Listed t strict starts sizes ats lens from widths count at) where
+  pub listed-all : pg_from t at ≡ told_lines t None
       → (◌≡◌ {A = Programs} (record { id = record { at = ats; len = lens }; previous = record { at = from; len = widths }; count = count }) (gathered_of (map notes_of (pg_from t 0))))
       × (◌≡◌ {A = Places} (record { at = starts; len = sizes }) (lines_of (pg_from t 0)))
-  listed-all f =
-      let o : pg_from t 0 ≡ x.ps = x.joined ∙ ap (λ l. x.ps ++ l) (e ∙ told_none t r f) ∙ append-nil x.ps in (
+  unfolding told_lines
+  listed-all e =
+      let o : pg_from t 0 ≡ x.ps = x.joined ∙ ap (λ l. x.ps ++ l) e ∙ append-nil x.ps in (
         whole-programs x.ps ats lens from widths count x.id-at x.id-len x.previous-at x.previous-len x.counts ∙ ap (λ ps. gathered_of (map notes_of ps)) (sym o),
         whole-lines x.ps starts sizes x.line_at x.line-len ∙ ap lines_of (sym o),
       )
 
-  module _ (f : r.found ≡ true) (i : NextLineInText t at r) where
+  module _ (r : NextLine) (e : pg_from t at ≡ told_lines t (Some r)) (i : NextLineInText t at r) where
     abbrev p : Piece
     p = told_line t r
 
     opened : pg_from t at ≡ p ∷ pg_from t r.next
-    opened = e ∙ told-one t r f
+    unfolding told_lines
+    opened = e
 
     fewer : count + suc (length (pg_from t r.next)) ≤ 1024
     fewer = omega (arith, x.room, ap length opened)

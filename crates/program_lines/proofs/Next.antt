@@ -1,18 +1,17 @@
 -- The PG lines of a text, line by line.
 use Prim.Native.Nat.{ℕ, ◌+◌, ◌-◌, ◌≤◌, ◌<◌}
 use mathlib.Core.Path.{◌≡◌, refl, sym, ap, ◌∙◌}
-use mathlib.Core.Bool.{Bool, true, false, cond}
+use mathlib.Core.Bool.{true, false, cond}
 use mathlib.Core.List.{List, [], ◌∷◌}
 use native.Mathlib.Omega.{arith}
 use lib.ListN.{length, take, drop, length-drop, drop_of_length-le}
 use lib.Seq.{drop-drop}
-use Rattle.format.specs.Lines.{Piece, lines_from}
+use Rattle.format.specs.Lines.{lines_from}
 use Rattle.byte_slices.specs.First.{first_line}
 use Rattle.byte_slices.specs.declared.Cut.{Cut}
 use Rattle.byte_slices.proofs.Lines.{lines_none}
 use Rattle.byte_slices.proofs.First.{lines-first, first-le, first-within, first_some}
-use Rattle.program_lines.specs.Found.{may_be_program, program_lines, pg_from, told_line, told_lines}
-use Rattle.program_lines.specs.declared.NextLine.{NextLine}
+use Rattle.program_lines.specs.Found.{may_be_program, program_lines, pg_from}
 
 -- there is no line after the last
 pub pg-none : (t : List ℕ) (at : ℕ) → length t ≤ at → pg_from t at ≡ []
@@ -48,14 +47,3 @@ turn t at h c f =
       first = λ e. list ∙ ap (λ b. cond b (record { at = at; bytes = take c.len s } ∷ pg_from t (at + c.next)) (pg_from t (at + c.next))) (ap (λ n. may_be_program (take n s)) (sym m) ∙ e);
       other = λ e. list ∙ ap (λ b. cond b (record { at = at; bytes = take c.len s } ∷ pg_from t (at + c.next)) (pg_from t (at + c.next))) (ap (λ n. may_be_program (take n s)) (sym m) ∙ e);
     }
-
--- ---- by what the next line is
-
-module _ (t : List ℕ) (r : NextLine) where
-  pub told-one : r.found ≡ true → told_lines t r ≡ told_line t r ∷ pg_from t r.next
-  unfolding told_lines
-  told-one e = ap (λ b. cond b (told_line t r ∷ pg_from t r.next) []) e
-
-  pub told_none : r.found ≡ false → told_lines t r ≡ []
-  unfolding told_lines
-  told_none e = ap (λ b. cond b (told_line t r ∷ pg_from t r.next) []) e

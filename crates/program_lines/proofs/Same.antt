@@ -1,13 +1,13 @@
 -- What is gathered from the PG lines of an accepted text is what is gathered from its catalogue.
 use Prim.Native.Nat.{ℕ, ◌+◌, ◌<◌}
 use mathlib.Core.Path.{◌≡◌, refl, sym, ap, ap₂, ◌∙◌}
-use mathlib.Core.Bool.{Bool, true, false, ◌&&◌, ◌||◌, cond}
+use mathlib.Core.Bool.{Bool, true, false, ◌&&◌, cond}
 use mathlib.Core.List.{List, [], ◌∷◌, ◌++◌, map}
 use mathlib.Core.Option.{Option, none, some}
 use native.Mathlib.Omega.{arith}
-use lib.ListN.{length}
+use Rattle.std.specs.Prelude as std
 use lib.Dec.{eqb}
-use borrow.Author.Tests.{eqb-true, eq-eqb, ne_eqb}
+use borrow.Author.Tests.{eqb-true, ne_eqb}
 use Rattle.format.specs.Bytes.{any}
 use Rattle.format.specs.Lines.{Piece}
 use Rattle.format.specs.Fields.{Field, tagged, repeats, later, last_of, without, put, settled_on, settled}
@@ -27,15 +27,14 @@ use Rattle.tidy_laws.proofs.Length.{last-without}
 use Rattle.catalogue_entries.specs.declared.Place.{Place}
 use Rattle.catalogue_entries.specs.declared.Entry.{Entry}
 use Rattle.catalogue_entries.specs.Entries.{piece_at, head_entry, field_entry, entries_on, entries_of, entries_in}
-use Rattle.catalogue_lookup.specs.declared.Found.{Found}
-use Rattle.catalogue_lookup.specs.Lookup.{found_of, value_in}
+use Rattle.catalogue_lookup.specs.Lookup.{found_of}
 use Rattle.catalogue_lookup.proofs.Kept.{text-entries}
 use Rattle.catalogue_lookup.proofs.Answers.{last_none, later-none, value-fields}
 use Rattle.program_ids.specs.Places.{nowhere}
 use Rattle.accepted_line.specs.Run.{AtField, fields_from}
 use Rattle.accepted_line.specs.Next.{last_in, or_value}
 use Rattle.accepted_line.proofs.fields.Start.{accepted-fields, accepted-start}
-use Rattle.program_places.specs.Gathered.{ProgramPlaces, or_nowhere, noted_in, gathered_of}
+use Rattle.program_places.specs.Gathered.{ProgramPlaces, or_nowhere, noted_in}
 use Rattle.program_lines.specs.Found.{pg_from, place_of, previous_of, notes_of}
 use Rattle.program_lines.proofs.Accepted.{IsProgram, spelled, text-program-lines}
 use Rattle.program_lines.proofs.Last.{last-after}
@@ -141,7 +140,7 @@ unfolding noted_in field_entry
 noted-fields [] es = refl
 noted-fields (f ∷ fs) es = noted-fields fs es
 
-abbrev note_of : Piece → Found → ProgramPlaces
+abbrev note_of : Piece → std.Option Place → ProgramPlaces
 note_of p v = record { id = piece_at p; previous = or_nowhere v }
 
 noted-on : (l : ℕ) (rs : List Record) → Each Sound rs → noted_in (entries_on l rs) ≡ map record_notes (of_kind 4 rs)

@@ -1,5 +1,5 @@
 -- The PG lines of a text from an offset on, what the next of them gives, and what is noted of each.
-use Rattle.std.specs.Prelude.{ℕ, ◌+◌, ◌≤◌, ◌<◌, ◌≡◌, Bool, true, cond, List, [], ◌∷◌, map, length, take, drop, get_or, eqb}
+use Rattle.std.specs.Prelude.{ℕ, ◌+◌, ◌≤◌, ◌<◌, Bool, cond, Option, Some, None, List, [], ◌∷◌, map, length, take, drop, get_or, eqb}
 use Rattle.format.specs.Lines.{Piece, lines_from}
 use Rattle.program_chains.specs.Parents.{in_array}
 use Rattle.catalogue_entries.specs.declared.Place.{Place}
@@ -24,19 +24,20 @@ program_lines (p ∷ ps) = cond (may_be_program p.bytes) (p ∷ program_lines ps
 abbrev pub pg_from : List ℕ → ℕ → List Piece
 pg_from t at = program_lines (lines_from at (drop at t))
 
--- the line in an answer
+-- a line that is found
 unfoldable pub told_line : List ℕ → NextLine → Piece
 told_line t r = record { at = r.at; bytes = take r.len (drop r.at t) }
 
 -- the lines in an answer: its own and those after it, or none
-unfoldable pub told_lines : List ℕ → NextLine → List Piece
+unfoldable pub told_lines : List ℕ → Option NextLine → List Piece
 unfolding told_line program_lines
-told_lines t r = cond r.found (told_line t r ∷ pg_from t r.next) []
+told_lines t None = []
+told_lines t (Some r) = told_line t r ∷ pg_from t r.next
 
--- where the line of an answer and the next line are in the text
+-- where a line that is found and the next line are in the text
 pub record NextLineInText (t : List ℕ) (start : ℕ) (r : NextLine) : Type 0 where
   pub line : r.at + r.len ≤ length t
-  pub onward : r.found ≡ true → start < r.next
+  pub onward : start < r.next
   pub within : r.next ≤ length t
 
 -- ---- what is noted

@@ -1,7 +1,7 @@
 // The programs of an accepted text, gathered from its PG lines: where each line is, its ID and its PP.
 #![tactic(auto)]
 
-ghost use Rattle.std.specs.Prelude.{◌≡◌, true, map, ◌≤◌, ◌+◌, ◌<◌, ◌^◌, length};
+ghost use Rattle.std.specs.Prelude.{◌≡◌, true, map, ◌≤◌, ◌+◌, ◌<◌, ◌^◌, length, IfSome};
 ghost use Rattle.format.specs.Reading.{read_text};
 ghost use Rattle.accepted_rule.specs.Rule.{ReadsBy};
 ghost use Rattle.accepted.specs.Read.{is_accepted};
@@ -15,10 +15,9 @@ use catalogue_entries::Place;
 use program_places::{Places, Programs};
 use record::Stretch;
 
-// The next PG line, where it is, and the offset of the line after it; `found` is false if none is left.
+// A PG line: where it is, and the offset of the line after it.
 #[derive(Clone, Copy)]
 struct NextLine {
-    found: bool,
     at: usize,
     len: usize,
     next: usize,
@@ -48,11 +47,11 @@ fn may_be_program(line: &[u8]) -> bool
     line[1] == b'P'
 }
 
-// The first PG line from the offset `start` on, at which a line starts.
-fn next_program(text: &[u8], start: usize) -> NextLine
+// The first PG line from the offset `start` on, at which a line starts, if one is left.
+fn next_program(text: &[u8], start: usize) -> Option<NextLine>
     requires { start ≤ length text.now }
     ensures list { pg_from text.now start ≡ told_lines text.now result }
-    ensures place { NextLineInText text.now start result }
+    ensures place { IfSome result (NextLineInText text.now start) }
 {
     let mut at = start;
     while at < text.len() {
@@ -60,21 +59,15 @@ fn next_program(text: &[u8], start: usize) -> NextLine
         let end = at + cut.len;
         let next = at + cut.next;
         if may_be_program(&text[at..end]) {
-            return NextLine {
-                found: true,
+            return Some(NextLine {
                 at,
                 len: cut.len,
                 next,
-            };
+            });
         }
         at = next;
     }
-    NextLine {
-        found: false,
-        at: 0,
-        len: 0,
-        next: at,
-    }
+    None
 }
 
 // A place, in the numbers of an entry.
@@ -141,25 +134,7 @@ pub fn gather(text: &[u8], strict: bool) -> ProgramLines
     let mut widths: [u32; 1024] = [0; 1024];
     let mut count: usize = 0;
     let mut at: usize = 0;
-    loop {
-        let p = next_program(text, at);
-        if !p.found {
-            let id = Places { at: ats, len: lens };
-            let previous = Places {
-                at: from,
-                len: widths,
-            };
-            let programs = Programs {
-                id,
-                previous,
-                count,
-            };
-            let lines = Places {
-                at: starts,
-                len: sizes,
-            };
-            return ProgramLines { programs, lines };
-        }
+    while let Some(p) = next_program(text, at) {
         let start = p.at;
         let end = start + p.len;
         let noted = places_of(&text[start..end], start, strict);
@@ -172,4 +147,19 @@ pub fn gather(text: &[u8], strict: bool) -> ProgramLines
         count += 1;
         at = p.next;
     }
+    let id = Places { at: ats, len: lens };
+    let previous = Places {
+        at: from,
+        len: widths,
+    };
+    let programs = Programs {
+        id,
+        previous,
+        count,
+    };
+    let lines = Places {
+        at: starts,
+        len: sizes,
+    };
+    ProgramLines { programs, lines }
 }

@@ -2,11 +2,12 @@
 use Prim.Native.Nat.{ℕ, ◌≤◌, ◌<◌}
 use mathlib.Core.Path.{◌≡◌, refl, sym, ap, ap₂, subst, ◌∙◌}
 use mathlib.Core.Bool.{Bool, true, false, cond}
-use mathlib.Core.List.{List, []}
+use mathlib.Core.List.{List}
 use native.Mathlib.Omega.{arith}
 use lib.ListN.{length, take}
 use lib.Dec.{eqb}
-use borrow.Author.Tests.{ne_eqb}
+use borrow.Author.Tests.{ne_eqb, eqb-true, eqb-false}
+use Rattle.std.specs.Prelude.{Result, Ok, Err}
 use Rattle.format.specs.Bytes.{any}
 use Rattle.format.specs.Programs.{Program, Link, links, is_dangling, loops_from, tangled, roots, leaves}
 use Rattle.program_chains.specs.declared.Ordinals.{Ordinals}
@@ -14,9 +15,27 @@ use Rattle.program_chains.proofs.Arrays.{front, front-count, front-inside}
 use Rattle.program_chains.proofs.Some.{leaves-some}
 use Rattle.program_chains.specs.Parents.{links_of, are_parents, in_array}
 use Rattle.program_parents.specs.declared.Parents.{Parents}
-use Rattle.program_parents.specs.declared.Graph.{Graph}
-use Rattle.program_parents.specs.Parents.{parents_of, leaves_in, ordinals_of, graph_of}
+use Rattle.program_parents.specs.Parents.{parents_of, ordinals_of, unless_tangled, graph_of}
 use Rattle.program_parents.proofs.Numbers.{numbers, links-count, numbers-count, numbers-roots, numbers-links, numbers-within, links-named}
+
+ok-is-no-err : {A : Type 0} (x : A) (n : ℕ) → ◌≡◌ {A = Result A ℕ} (Ok x) (Err n) → ⊥
+ok-is-no-err x n e = cc
+
+or_ok : {A : Type 0} → A → Result A ℕ → A
+or_ok x (Ok y) = y
+or_ok x (Err n) = x
+
+same_Ok : {A : Type 0} (x y : A) → ◌≡◌ {A = Result A ℕ} (Ok x) (Ok y) → x ≡ y
+unfolding or_ok
+same_Ok x y e = ap (or_ok x) e
+
+or_err : {A : Type 0} → ℕ → Result A ℕ → ℕ
+or_err m (Ok y) = m
+or_err m (Err n) = n
+
+same_Err : {A : Type 0} (m n : ℕ) → ◌≡◌ {A = Result A ℕ} (Err m) (Err n) → m ≡ n
+unfolding or_err
+same_Err m n e = ap (or_err m) e
 
 -- ---- what links say
 
@@ -45,14 +64,38 @@ module _ (ls : List Link) where
         go true q = absurd (omega (arith, z, tangled-loops true none-dangles q))
         go false q = refl
 
-  -- a refusal, and no leaves
-  graph-refused : (n : ℕ) → tangled ls ≡ n → eqb n 0 ≡ false → (g : Graph) → g ≡ record { refusal = n; parents = parents_of ls; leaves = ordinals_of [] } → g ≡ graph_of ls
-  unfolding graph_of leaves_in
-  graph-refused n e z g is = is ∙ rw (e, z) refl
+  -- a value, or a refusal
+  module _ {A : Type 0} (x : A) where
+    pub unless-ok : tangled ls ≡ 0 → Ok x ≡ unless_tangled ls x
+    unfolding unless_tangled
+    unless-ok e = rw e refl
 
-  graph-accepted : tangled ls ≡ 0 → ◌≡◌ {A = Graph} (record { refusal = 0; parents = parents_of ls; leaves = ordinals_of (leaves ls) }) (graph_of ls)
-  unfolding graph_of leaves_in
-  graph-accepted e = rw e refl
+    pub unless-err : (n : ℕ) → n ≡ tangled ls → (n ≡ 0 → ⊥) → Err n ≡ unless_tangled ls x
+    unfolding unless_tangled
+    unless-err n e d = rw (← e, ne_eqb n 0 d) refl
+
+    pub ok-untangled : (r : Result A ℕ) → r ≡ unless_tangled ls x → (y : A) → r ≡ Ok y → (tangled ls ≡ 0) × (y ≡ x)
+    unfolding unless_tangled
+    ok-untangled r e y q = go (eqb (tangled ls) 0) refl
+      where
+        go : (b : Bool) → eqb (tangled ls) 0 ≡ b → (tangled ls ≡ 0) × (y ≡ x)
+        go true k = (eqb-true (tangled ls) 0 k, same_Ok y x (sym q ∙ e ∙ ap (λ b. cond b (Ok x) (Err (tangled ls))) k))
+        go false k = absurd (ok-is-no-err y (tangled ls) (sym q ∙ e ∙ ap (λ b. cond b (Ok x) (Err (tangled ls))) k))
+
+    -- what is no refusal is the value
+    pub no-err-untangled : (r : Result A ℕ) → r ≡ unless_tangled ls x → ((n : ℕ) → r ≡ Err n → ⊥) → tangled ls ≡ 0
+    no-err-untangled (Ok y) e d = (ok-untangled (Ok y) e y refl).0
+    no-err-untangled (Err n) e d = absurd (d n refl)
+
+    pub err-tangled : (r : Result A ℕ) → r ≡ unless_tangled ls x → (n : ℕ) → r ≡ Err n → (n ≡ tangled ls) × (n ≡ 0 → ⊥)
+    unfolding unless_tangled
+    err-tangled r e n q = go (eqb (tangled ls) 0) refl
+      where
+        go : (b : Bool) → eqb (tangled ls) 0 ≡ b → (n ≡ tangled ls) × (n ≡ 0 → ⊥)
+        go true k = absurd (ok-is-no-err x n (sym (sym q ∙ e ∙ ap (λ b. cond b (Ok x) (Err (tangled ls))) k)))
+        go false k =
+            let is : n ≡ tangled ls = same_Err n (tangled ls) (sym q ∙ e ∙ ap (λ b. cond b (Ok x) (Err (tangled ls))) k) in
+            (is, λ z. eqb-false (tangled ls) 0 k (sym is ∙ z))
 
 -- ---- the parents of at most 1,024 programs
 
@@ -84,6 +127,9 @@ module _ (ps : List Program) (few : length ps ≤ 1024) (q : Parents) (is : q �
   pub lent-few : length lent ≤ 1024
   lent-few = omega (arith, ap length lent_is, numbers-count ps)
 
+  pub lent-most : q.count ≤ 1024
+  lent-most = omega (arith, lent-count, lent-few)
+
   -- the programs without PP
   pub lent-roots : roots (links_of lent) ≡ roots (links ps)
   lent-roots = ap (λ xs. roots (links_of xs)) lent_is ∙ numbers-roots ps few
@@ -92,18 +138,11 @@ module _ (ps : List Program) (few : length ps ≤ 1024) (q : Parents) (is : q �
   unfolding parents_of
   dangling-is = ap (λ x. x.dangling) is
 
-  pub road-dangling : q.dangling ≡ true → (g : Graph) → g ≡ record { refusal = 22; parents = q; leaves = ordinals_of [] } → g ≡ graph_of (links ps)
-  road-dangling d g e =
-      graph-refused (links ps) 22 (tangled-dangling (links ps) (sym dangling-is ∙ d)) refl g (e ∙ ap (λ x. record { refusal = 22; parents = x; leaves = ordinals_of [] }) is)
-
   pub refusal-dangling : q.dangling ≡ true → 22 ≡ tangled (links ps)
   refusal-dangling d = sym (tangled-dangling (links ps) (sym dangling-is ∙ d))
 
   pub road-untangled : tangled (links ps) ≡ 0 → q.dangling ≡ false
   road-untangled z = dangling-is ∙ none-dangles (links ps) z
-
-  pub road-refused : (n : ℕ) → n ≡ tangled (links ps) → (n ≡ 0 → ⊥) → (g : Graph) → g ≡ record { refusal = n; parents = q; leaves = ordinals_of [] } → g ≡ graph_of (links ps)
-  road-refused n e d g k = graph-refused (links ps) n (sym e) (ne_eqb n 0 d) g (k ∙ ap (λ x. record { refusal = n; parents = x; leaves = ordinals_of [] }) is)
 
   -- where nothing dangles
   module _ (d : q.dangling ≡ false) where
@@ -122,46 +161,36 @@ module _ (ps : List Program) (few : length ps ≤ 1024) (q : Parents) (is : q �
     pub lent-untangled : tangled (links ps) ≡ 0 → loops_from (links_of lent) 0 (links_of lent) ≡ false
     lent-untangled z = ap (λ ls. loops_from ls 0 ls) lent-links ∙ none-loops (links ps) z
 
-    pub road-cycle : loops_from (links_of lent) 0 (links_of lent) ≡ true → (g : Graph) → g ≡ record { refusal = 23; parents = q; leaves = ordinals_of [] } → g ≡ graph_of (links ps)
-    road-cycle c g e = graph-refused (links ps) 23 (loops true c) refl g (e ∙ ap (λ x. record { refusal = 23; parents = x; leaves = ordinals_of [] }) is)
-
-    pub road-leaves : loops_from (links_of lent) 0 (links_of lent) ≡ false → (xs : Ordinals)
-        → (xs.list ≡ in_array (leaves (links_of lent))) × (xs.count ≡ length (leaves (links_of lent)))
-        → ◌≡◌ {A = Graph} (record { refusal = 0; parents = q; leaves = xs }) (graph_of (links ps))
+    -- the leaves that are found
+    pub road-leaves : (xs : Ordinals) → (xs.list ≡ in_array (leaves (links_of lent))) × (xs.count ≡ length (leaves (links_of lent)))
+        → xs ≡ ordinals_of (leaves (links ps))
     unfolding ordinals_of
-    road-leaves c xs found =
-        ap₂ (λ x l. record { refusal = 0; parents = x; leaves = l }) is
-        (ap₂ (λ l n. record { list = l; count = n }) found.0 found.1 ∙ ap (λ ls. ordinals_of (leaves ls)) lent-links)
-        ∙ graph-accepted (links ps) (loops false c)
+    road-leaves xs found = ap₂ (λ l n. record { list = l; count = n }) found.0 found.1 ∙ ap (λ ls. ordinals_of (leaves ls)) lent-links
 
 -- ---- what the road comes to
 
-module _ (ls : List Link) (g : Graph) (is : g ≡ graph_of ls) where
-  pub graph-refusal : g.refusal ≡ tangled ls
+module _ (ls : List Link) (r : Result Ordinals ℕ) (is : r ≡ graph_of ls) where
+  pub graph-refusal : (n : ℕ) → r ≡ Err n → (n ≡ tangled ls) × (n ≡ 0 → ⊥)
   unfolding graph_of
-  graph-refusal = ap (λ x. x.refusal) is
-
-  pub graph-parents : g.parents ≡ parents_of ls
-  unfolding graph_of
-  graph-parents = ap (λ x. x.parents) is
+  graph-refusal = err-tangled ls (ordinals_of (leaves ls)) r is
 
   -- nothing is tangled
-  module _ (z : g.refusal ≡ 0) where
-    pub graph-undangled : g.parents.dangling ≡ false
-    unfolding parents_of
-    graph-undangled = ap (λ x. x.dangling) graph-parents ∙ none-dangles ls (sym graph-refusal ∙ z)
+  module _ (xs : Ordinals) (found : r ≡ Ok xs) where
+    pub graph-untangled : tangled ls ≡ 0
+    unfolding graph_of
+    graph-untangled = (ok-untangled ls (ordinals_of (leaves ls)) r is xs found).0
 
-    found : g.leaves ≡ ordinals_of (leaves ls)
-    unfolding graph_of leaves_in
-    found = ap (λ x. x.leaves) is ∙ ap (λ n. ordinals_of (cond (eqb n 0) (leaves ls) [])) (sym graph-refusal ∙ z)
+    leaves-are : xs ≡ ordinals_of (leaves ls)
+    unfolding graph_of
+    leaves-are = (ok-untangled ls (ordinals_of (leaves ls)) r is xs found).1
 
-    pub graph-list : g.leaves.list ≡ in_array (leaves ls)
+    pub graph-list : xs.list ≡ in_array (leaves ls)
     unfolding ordinals_of
-    graph-list = ap (λ x. x.list) found
+    graph-list = ap (λ x. x.list) leaves-are
 
-    pub graph-count : g.leaves.count ≡ length (leaves ls)
+    pub graph-count : xs.count ≡ length (leaves ls)
     unfolding ordinals_of
-    graph-count = ap (λ x. x.count) found
+    graph-count = ap (λ x. x.count) leaves-are
 
 -- where there are programs there is a leaf
 pub some-leaf : (ps : List Program) → length ps ≤ 1024 → tangled (links ps) ≡ 0 → 0 < length ps → 0 < length (leaves (links ps))

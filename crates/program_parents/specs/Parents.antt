@@ -1,5 +1,5 @@
 -- The parents of the programs as numbers, and what is found from them.
-use Rattle.std.specs.Prelude.{ℕ, ◌≤◌, ◌≡◌, cond, List, [], map, length, eqb}
+use Rattle.std.specs.Prelude.{ℕ, ◌≤◌, ◌≡◌, cond, Result, Ok, Err, ⊤, List, map, length, eqb}
 use Rattle.std.proofs.Math.Option.{Option, none, some}
 use Rattle.format.specs.Bytes.{any}
 use Rattle.format.specs.Programs.{Program, Link, links, root, dangling, child, is_dangling, tangled, leaves}
@@ -9,7 +9,6 @@ use Rattle.catalogue_entries.specs.declared.Place.{Place}
 use Rattle.program_ids.specs.Places.{InsideText, bytes_at}
 use Rattle.program_ids.specs.Search.{id_ordinal_from}
 use Rattle.program_parents.specs.declared.Parents.{Parents}
-use Rattle.program_parents.specs.declared.Graph.{Graph}
 
 -- ---- parents
 
@@ -51,16 +50,19 @@ pub record AreParents (q : Parents) : Type 0 where
 
 -- ---- leaves
 
--- the leaves: none if a PP dangles or there is a cycle
-unfoldable pub leaves_in : List Link → List ℕ
-unfolding tangled leaves
-leaves_in ls = cond (eqb (tangled ls) 0) (leaves ls) []
-
 unfoldable pub ordinals_of : List ℕ → Ordinals
 unfolding in_array
 ordinals_of xs = record { list = in_array xs; count = length xs }
 
--- 0, 22 or 23; the parents; and the leaves
-unfoldable pub graph_of : List Link → Graph
-unfolding tangled parents_of ordinals_of leaves_in
-graph_of ls = record { refusal = tangled ls; parents = parents_of ls; leaves = ordinals_of (leaves_in ls) }
+-- a value, or the refusal if a PP dangles or there is a cycle: 22 or 23
+unfoldable pub unless_tangled : {A : Type 0} → List Link → A → Result A ℕ
+unfolding tangled
+unless_tangled ls x = cond (eqb (tangled ls) 0) (Ok x) (Err (tangled ls))
+
+abbrev pub tangle_of : List Link → Result ⊤ ℕ
+tangle_of ls = unless_tangled ls tt
+
+-- the leaves, or 22 or 23
+unfoldable pub graph_of : List Link → Result Ordinals ℕ
+unfolding unless_tangled ordinals_of leaves
+graph_of ls = unless_tangled ls (ordinals_of (leaves ls))

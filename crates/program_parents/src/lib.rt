@@ -1,19 +1,18 @@
 // The parents of the programs that were gathered from a catalogue, and from the parents the leaves.
 #![tactic(auto)]
 
-ghost use Rattle.std.specs.Prelude.{◌≡◌, true, List, [], ◌≤◌, length};
+ghost use Rattle.std.specs.Prelude.{◌≡◌, true, List, ◌≤◌, length};
 ghost use Rattle.format.specs.Reading.{read_text};
 ghost use Rattle.format.specs.Catalogue as format;
 ghost use Rattle.format.specs.Programs.{Program, programs, links, tangled};
 ghost use Rattle.accepted.specs.Read.{is_accepted, records_of};
 ghost use Rattle.program_places.specs.Gathered.{programs_in};
 ghost use Rattle.program_ids.specs.Ids.{ids_at, IdsInText};
-ghost use Rattle.program_parents.specs.Parents.{Somewhere, parent_of, parents_of, AreParents, ordinals_of, graph_of};
+ghost use Rattle.program_parents.specs.Parents.{Somewhere, parent_of, parents_of, AreParents, tangle_of, graph_of};
 ghost use Rattle.program_parents.specs.Placed.{PlacesOf, ArePlaces, ListsIds};
 
 use catalogue_entries::Place;
 use program_chains::Ordinals;
-use program_ids::Named;
 use program_places::Programs;
 
 // The parent of a program whose PP equals no ID. It is neither an ordinal nor `NOBODY`.
@@ -31,12 +30,13 @@ fn find_parent(text: &[u8], ids: &[u32], previous: Place) -> u32
     let start = previous.at as usize;
     let end = start + previous.len as usize;
     match program_ids::find_program(text, ids, &text[start..end]) {
-        Named::Nobody => STRANGER,
-        Named::Is(k) => k.0,
+        None => STRANGER,
+        Some(k) => k.0,
     }
 }
 
-// The parent of each program in order, how many there are, and whether some PP equals no ID.
+// The parent of each program in order, how many there are, and whether some PP equals no ID. That is no `Err`: pruning refuses with 25, by the count,
+// before it refuses with 22.
 #[derive(Clone, Copy)]
 pub struct Parents {
     pub list: [u32; 1024],
@@ -61,10 +61,9 @@ fn find_parents(
     let mut ids: [u32; 3072] = [0; 3072];
     program_ids::list_ids(text, &ats[..count], &lens[..count], &mut ids);
     let end = count * program_ids::ROW;
-    let mut list: [u32; 1024] = [0; 1024];
+    let mut list = [0u32; 1024];
     let mut dangling = false;
-    let mut i: usize = 0;
-    while i < count {
+    for i in 0..count {
         let place = Place {
             at: from[i],
             len: widths[i],
@@ -74,7 +73,6 @@ fn find_parents(
             dangling = true;
         }
         list[i] = parent;
-        i += 1;
     }
     Parents {
         list,
@@ -153,56 +151,25 @@ pub fn list_ids(text: &[u8], catalogue: &[u8], ids: &mut [u32]) -> usize
     list_again(text, catalogue, ids, catalogue.len() / 4294967296)
 }
 
-// 0, or 22 if a PP dangles, or 23 if there is a cycle.
-pub fn tangle(parents: Parents) -> u8
-    requires { AreParents parents }
-    ensures { (ps : List Program) → length ps ≤ 1024 → parents ≡ parents_of (links ps) → result ≡ tangled (links ps) }
+// Refuses with 22 if a PP dangles, then with 23 if there is a cycle.
+pub fn tangle(parents: &Parents) -> Result<(), u8>
+    requires { AreParents parents.now }
+    ensures { (ps : List Program) → length ps ≤ 1024 → parents.now ≡ parents_of (links ps) → result ≡ tangle_of (links ps) }
 {
     if parents.dangling {
-        return 22;
+        return Err(22);
     }
-    let list = parents.list;
-    if program_walks::has_cycle(&list[..parents.count]) {
-        return 23;
+    if program_walks::has_cycle(&parents.list[..parents.count]) {
+        return Err(23);
     }
-    0
+    Ok(())
 }
 
-// What is found on the way to the leaves: 0, or 22 or 23 with no leaves; the parents; and the leaves.
-#[derive(Clone, Copy)]
-pub struct Graph {
-    pub refusal: u8,
-    pub parents: Parents,
-    pub leaves: Ordinals,
-}
-
-// No leaves, because of a refusal.
-fn refused(refusal: u8, parents: Parents) -> Graph
-    ensures { result ≡ record { refusal = refusal; parents = parents; leaves = ordinals_of [] } }
+// The leaves, from the parents, in the order of noodles-sam. Refuses as `tangle`.
+pub fn find_leaves(parents: &Parents) -> Result<Ordinals, u8>
+    requires { AreParents parents.now }
+    ensures { (ps : List Program) → length ps ≤ 1024 → parents.now ≡ parents_of (links ps) → result ≡ graph_of (links ps) }
 {
-    let list: [u32; 1024] = [0; 1024];
-    let leaves = Ordinals { list, count: 0 };
-    Graph {
-        refusal,
-        parents,
-        leaves,
-    }
-}
-
-// The leaves, from the parents, in the order of noodles-sam. Refuses with 22 if a PP dangles, then with 23 if there is a cycle.
-pub fn find_leaves(parents: Parents) -> Graph
-    requires { AreParents parents }
-    ensures { (ps : List Program) → length ps ≤ 1024 → parents ≡ parents_of (links ps) → result ≡ graph_of (links ps) }
-{
-    let refusal = tangle(parents);
-    if refusal != 0 {
-        return refused(refusal, parents);
-    }
-    let list = parents.list;
-    let leaves = program_chains::leaves(&list[..parents.count]);
-    Graph {
-        refusal: 0,
-        parents,
-        leaves,
-    }
+    tangle(parents)?;
+    Ok(program_chains::leaves(&parents.list[..parents.count]))
 }

@@ -1,11 +1,9 @@
 -- The programs of a catalogue: where the ID and the PP of each are, as numbers in arrays.
-use Rattle.std.specs.Prelude.{ℕ, List, [], ◌∷◌, map, length}
+use Rattle.std.specs.Prelude.{ℕ, List, [], ◌∷◌, map, length, Option, None, Some}
 use Rattle.program_chains.specs.Parents.{in_array}
 use Rattle.catalogue_entries.specs.declared.Place.{Place}
 use Rattle.catalogue_entries.specs.declared.Entry.{Entry}
 use Rattle.catalogue_entries.specs.declared.Entry.TheVariants.{End, Header, ReferenceSequence, ReadGroup, Program, Comment, Field}
-use Rattle.catalogue_lookup.specs.declared.Found.{Found}
-use Rattle.catalogue_lookup.specs.declared.Found.TheVariants.{Nothing, At}
 use Rattle.catalogue_lookup.specs.Lookup.{value_in}
 use Rattle.program_ids.specs.Places.{nowhere}
 use Rattle.program_places.specs.declared.Places.{Places}
@@ -17,10 +15,10 @@ pub record ProgramPlaces : Type 0 where
   pub previous : Place
 
 -- no PP: a place that is in no text
-unfoldable pub or_nowhere : Found → Place
+unfoldable pub or_nowhere : Option Place → Place
 unfolding nowhere
-or_nowhere Nothing = nowhere
-or_nowhere (At p) = p
+or_nowhere None = nowhere
+or_nowhere (Some p) = p
 
 -- each PG entry, in order, with the PP among the field entries after it
 unfoldable pub noted_in : List Entry → List ProgramPlaces

@@ -7,7 +7,6 @@ ghost use Rattle.catalogue_lookup.specs.Lookup.{value_in};
 ghost use Rattle.program_places.specs.Gathered.{or_nowhere, noted_in, programs_in, gathered_of};
 
 use catalogue_entries::{Entry, Place};
-use catalogue_lookup::Found;
 
 // The offset that stands for a missing PP. No text is so long.
 pub const NOWHERE: u32 = 4294967295;
@@ -31,13 +30,11 @@ pub struct Programs {
 fn find_previous(catalogue: &[u8], from: usize) -> Place
     ensures { result ≡ or_nowhere (value_in 80 80 (entries_in (drop from catalogue.now))) }
 {
-    match catalogue_lookup::field_from(catalogue, from, b'P', b'P') {
-        Found::Nothing => Place {
-            at: NOWHERE,
-            len: 0,
-        },
-        Found::At(p) => p,
-    }
+    let nowhere = Place {
+        at: NOWHERE,
+        len: 0,
+    };
+    catalogue_lookup::field_from(catalogue, from, b'P', b'P').unwrap_or(nowhere)
 }
 
 // Gathers the programs of a catalogue into four arrays of zeros: the offsets and lengths of their IDs, and those of their PPs. It walks from entry to

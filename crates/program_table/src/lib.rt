@@ -11,12 +11,10 @@ pub fn put_nodes(table: &mut [Node], parents: [u32; 1024], depths: [u32; 1024], 
     requires { (n ≤ length table.old) × (n ≤ 1024) }
     ensures { table.new ≡ in_front (nodes_of (take n parents) (take n depths)) table.old }
 {
-    let mut i = 0;
-    while i < n {
+    for i in 0..n {
         table[i] = Node {
             parent: parents[i],
             depth: depths[i],
         };
-        i += 1;
     }
 }

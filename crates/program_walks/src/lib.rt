@@ -11,9 +11,8 @@ fn comes_back(parents: &[u32], i: usize) -> bool
     requires i_in_bounds { i < length parents.now }
     ensures { result ≡ reaches (links_of parents.now) i (length parents.now) (link_of (get_or parents.now i 0)) }
 {
-    let mut at: u32 = parents[i];
-    let mut left: usize = parents.len();
-    while 0 < left {
+    let mut at = parents[i];
+    for _ in 0..parents.len() {
         if at == program_chains::NOBODY {
             return false;
         }
@@ -22,7 +21,6 @@ fn comes_back(parents: &[u32], i: usize) -> bool
             return true;
         }
         at = parents[k];
-        left -= 1;
     }
     false
 }
@@ -32,12 +30,10 @@ pub fn has_cycle(parents: &[u32]) -> bool
     requires { are_parents (length parents.now) parents.now ≡ true }
     ensures { result ≡ loops_from (links_of parents.now) 0 (links_of parents.now) }
 {
-    let mut i: usize = 0;
-    while i < parents.len() {
+    for i in 0..parents.len() {
         if comes_back(parents, i) {
             return true;
         }
-        i += 1;
     }
     false
 }
@@ -49,18 +45,15 @@ fn depth(parents: &[u32], i: usize) -> u32
     requires i_in_bounds { i < length parents.now }
     ensures { result ≡ depth (links_of parents.now) (length parents.now) (link_of (get_or parents.now i 0)) }
 {
-    let mut at: u32 = parents[i];
-    let mut steps: u32 = 0;
-    let mut left: usize = parents.len();
-    while 0 < left {
+    let most = parents.len() as u32;
+    let mut at = parents[i];
+    for steps in 0..most {
         if at == program_chains::NOBODY {
             return steps;
         }
         at = parents[at as usize];
-        steps += 1;
-        left -= 1;
     }
-    steps
+    most
 }
 
 // The sum of the numbers of parent links from every program to its root.
@@ -70,10 +63,8 @@ pub fn hops(parents: &[u32]) -> u32
     ensures { result ≡ hops (links_of parents.now) }
 {
     let mut sum: u32 = 0;
-    let mut i: usize = 0;
-    while i < parents.len() {
+    for i in 0..parents.len() {
         sum += depth(parents, i);
-        i += 1;
     }
     sum
 }

@@ -2,14 +2,14 @@
 use Prim.Native.Nat.{ℕ, zero, suc}
 use mathlib.Core.Path.{◌≡◌, refl, sym, ap, ◌∙◌}
 use mathlib.Core.List.{List}
+use Rattle.std.specs.Prelude.{Err}
 use Rattle.format.specs.Records.{Record}
 use Rattle.format.specs.Programs.{Program, programs, links, roots, leaves, hops, tangled}
 use Rattle.format.specs.Calls.{Answer, refused, yes, then, fitting, untangled, fresh, rooting, leafing}
-use Rattle.format.specs.declared.LineNo.{LineNo}
+use Rattle.format.specs.declared.Refusal.{Refusal}
 use Rattle.accepted.specs.Read.{records_of}
 use Rattle.read.specs.Answers.{answer_of, output_of}
 use Rattle.read.proofs.AnswerCases.{refused-answer}
-use Rattle.programs.specs.declared.LeavesAnswer.TheVariants.{Refused}
 use Rattle.programs.specs.Answers.{leaves_answer_of, list_of, with_hops}
 use Rattle.read.proofs.Fresh.{Current, goes_on, stops}
 
@@ -60,9 +60,9 @@ module _ (t c : List ℕ) (own : Current t c) where
 -- ---- the answer of leaves in the code's numbers
 
 module _ (a : Answer (List ℕ × ℕ)) (out : List ℕ) where
-  pub refused-leaves : (n : ℕ) (l : LineNo) → a ≡ refused n l.0 → (Refused n l ≡ leaves_answer_of a) × (out ≡ output_of (list_of a) out)
+  pub refused-leaves : (r : Refusal) → a ≡ refused r.number r.line.0 → (Err r ≡ leaves_answer_of a) × (out ≡ output_of (list_of a) out)
   unfolding leaves_answer_of list_of
-  refused-leaves n l e = (sym (ap leaves_answer_of e), (refused-answer (list_of a) out n l (ap list_of e)).1)
+  refused-leaves r e = (sym (ap leaves_answer_of e), (refused-answer (list_of a) out r (ap list_of e)).1)
 
 module _ (h : ℕ) where
   hops-told : (a : Answer (List ℕ)) → with_hops (answer_of a) h ≡ leaves_answer_of (then a (λ xs. yes (xs, h)))

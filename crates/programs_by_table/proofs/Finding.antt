@@ -7,7 +7,8 @@ use native.Mathlib.Omega.{arith}
 use lib.ListN.{length, take, length-map}
 use lib.Dec.{eqb}
 use borrow.Author.Tests.{eqb-true}
-use Rattle.format.specs.Programs.{Program, Link, root, dangling, child, links, loops_from, tangled, depth, hops, leaves}
+use Rattle.std.specs.Prelude.{Some, None, unwrap_or}
+use Rattle.format.specs.Programs.{Program, Link, root, child, links, loops_from, tangled, depth, hops, leaves}
 use Rattle.program_chains.specs.declared.Ordinals.{Ordinals}
 use Rattle.program_chains.specs.Parents.{nobody, link_of, links_of, in_array}
 use Rattle.program_depths.specs.declared.Depths.{Depths}
@@ -16,8 +17,8 @@ use Rattle.program_depths.proofs.Deep.{links-length}
 use Rattle.program_depths.proofs.Noting.{cycle-is}
 use Rattle.format.specs.declared.Node.{Node}
 use Rattle.program_parents.specs.declared.Parents.{Parents}
-use Rattle.program_parents.specs.Parents.{parents_of, ordinals_of}
-use Rattle.program_parents.proofs.Road.{lent-array, lent-count, lent-links, road-dangling, road-cycle, road-leaves, graph-refusal}
+use Rattle.program_parents.specs.Parents.{parents_of}
+use Rattle.program_parents.proofs.Road.{lent-array, lent-count, lent-links, refusal-dangling, refusal-loops}
 use Rattle.programs_by_table.specs.declared.DeepGraph.{DeepGraph}
 use Rattle.format.specs.Table.{parent_number, nodes}
 use Rattle.programs_by_table.specs.Plans.{parents_in, depths_in, no_graph_of, DeepGraphOf}
@@ -78,27 +79,23 @@ module _ (ps : List Program) (few : length ps ≤ 1024) (q : Parents) (is : q �
   lent = take q.count q.list
 
   pub found-dangling : q.dangling ≡ true → (f : DeepGraph) → f ≡ no_graph_of 22 → DeepGraphOf (links ps) f
-  found-dangling d =
-      found_nothing (links ps) 22
-      (graph-refusal (links ps) (record { refusal = 22; parents = q; leaves = ordinals_of [] }) (road-dangling ps few q is d (record { refusal = 22; parents = q; leaves = ordinals_of [] }) refl)) (omega arith)
+  found-dangling d = found_nothing (links ps) 22 (refusal-dangling ps few q is d) (omega arith)
 
   module _ (d : q.dangling ≡ false) where
-    pub found-cycle : loops_from (links_of lent) 0 (links_of lent) ≡ true → (f : DeepGraph) → f ≡ no_graph_of 23 → DeepGraphOf (links ps) f
-    found-cycle c =
-        found_nothing (links ps) 23
-        (graph-refusal (links ps) (record { refusal = 23; parents = q; leaves = ordinals_of [] }) (road-cycle ps few q is d c (record { refusal = 23; parents = q; leaves = ordinals_of [] }) refl)) (omega arith)
+    pub found-cycle : None ≡ depths_of (links_of lent) → (f : DeepGraph) → f ≡ no_graph_of 23 → DeepGraphOf (links ps) f
+    found-cycle none = found_nothing (links ps) 23 (refusal-loops ps few q is d true (sym (cycle-is (links_of lent) None none))) (omega arith)
 
     -- the depths that are found where there is no cycle
-    module _ (k : Depths) (told : k ≡ depths_of (links_of lent)) (none : k.cycle ≡ false) where
+    module _ (k : Depths) (told : Some k ≡ depths_of (links_of lent)) where
       acyclic : loops_from (links_of lent) 0 (links_of lent) ≡ false
-      acyclic = sym (cycle-is (links_of lent) k told) ∙ none
+      acyclic = sym (cycle-is (links_of lent) (Some k) told)
 
       abbrev all : List ℕ
       all = map (depth (links_of lent) (length (links_of lent))) (links_of lent)
 
-      deep : k ≡ record { list = in_array all; hops = hops (links_of lent); cycle = false }
+      deep : k ≡ record { list = in_array all; hops = hops (links_of lent) }
       unfolding depths_of
-      deep = told ∙ ap (λ t. cond t (record { list = in_array []; hops = 0; cycle = true }) (record { list = in_array all; hops = hops (links_of lent); cycle = false })) acyclic
+      deep = ap (λ o. unwrap_or o k) (told ∙ ap (λ t. cond t None (Some (record { list = in_array all; hops = hops (links_of lent) }))) acyclic)
 
       -- the parents that are lent are those of the records
       numbered : links_of lent ≡ links ps → q.list ≡ in_array (map (λ n. n.parent) (nodes (links ps)))
@@ -112,7 +109,7 @@ module _ (ps : List Program) (few : length ps ≤ 1024) (q : Parents) (is : q �
         found-leaves =
             let same : links_of lent ≡ links ps = lent-links ps few q is d in
             record {
-              refusal = graph-refusal (links ps) (record { refusal = 0; parents = q; leaves = xs }) (road-leaves ps few q is d acyclic xs found);
+              refusal = refusal-loops ps few q is d false acyclic;
               count = λ _. lent-count ps few q is ∙ sym (links-length lent) ∙ ap length same;
               parents = λ _. numbered same;
               depths = λ _. ap (λ x. x.list) deep ∙ ap (λ ls. in_array (map (depth ls (length ls)) ls)) same ∙ ap in_array (sym (depths-are (links ps)));

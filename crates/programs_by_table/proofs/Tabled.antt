@@ -7,9 +7,10 @@ use native.Mathlib.Omega.{arith}
 use lib.ListN.{length, length-map, take}
 use lib.Dec.{ltb}
 use borrow.Author.Tests.{lt-ltb, le-ltb}
+use Rattle.std.specs.Prelude.{Ok}
 use Rattle.format.specs.Programs.{Link, programs, links, leaves, hops, tangled}
 use Rattle.format.specs.Calls.{Answer, refused, yes, then, fitting, fresh, leafing}
-use Rattle.format.specs.declared.LineNo.{LineNo}
+use Rattle.format.specs.declared.Refusal.{Refusal}
 use Rattle.accepted.specs.Read.{records_of}
 use Rattle.format.specs.declared.Node.{Node}
 use Rattle.program_chains.specs.Parents.{in_array}
@@ -17,7 +18,6 @@ use Rattle.program_chains.proofs.Arrays.{front}
 use Rattle.program_table.specs.Nodes.{nodes_of}
 use Rattle.read.specs.Answers.{answer_of, output_of}
 use Rattle.read.proofs.Fresh.{Current, goes_on, stops}
-use Rattle.programs.specs.declared.LeavesAnswer.TheVariants.{Counted}
 use Rattle.programs.specs.Answers.{leaves_answer_of, list_of}
 use Rattle.programs.proofs.Chained.{leaves-tangled, leaves-own}
 use Rattle.programs_by_table.specs.declared.DeepGraph.{DeepGraph}
@@ -89,23 +89,23 @@ pub record Says (a : Answer Told) (out out' : List ℕ) (p : TablePlan) : Type 0
   pub plan : p ≡ plan_for a
   pub wrote : out' ≡ output_of (list_of (without_table a)) out
 
-stop-says : (n : ℕ) (l : LineNo) (out : List ℕ) → Says (refused n l.0) out out (stopped_plan_of n l)
+stop-says : (r : Refusal) (out : List ℕ) → Says (refused r.number r.line.0) out out (stopped_plan_of r)
 unfolding leaves_answer_of without_table list_of output_of nodes_in plan_for parents_in depths_in in_array stopped_plan_of
-stop-says n l out = record { plan = refl; wrote = refl }
+stop-says r out = record { plan = refl; wrote = refl }
 
-pub stopped-says : (a : Answer Told) (n : ℕ) (l : LineNo) (out : List ℕ) → a ≡ refused n l.0 → (p : TablePlan) → p ≡ stopped_plan_of n l → Says a out out p
-stopped-says a n l out e p is = subst (λ b. Says b out out p) (sym e) (subst (Says (refused n l.0) out out) (sym is) (stop-says n l out))
+pub stopped-says : (a : Answer Told) (r : Refusal) (out : List ℕ) → a ≡ refused r.number r.line.0 → (p : TablePlan) → p ≡ stopped_plan_of r → Says a out out p
+stopped-says a r out e p is = subst (λ b. Says b out out p) (sym e) (subst (Says (refused r.number r.line.0) out out) (sym is) (stop-says r out))
 
 module _ (ls : List Link) (f : DeepGraph) (found : DeepGraphOf ls f) (z : f.refusal ≡ 0) where
   plan-says : (b : Answer (List ℕ)) (out : List ℕ) → Says (then b (λ xs. yes (xs, hops ls, nodes ls))) out (output_of b out) (table_plan_of (answer_of b) f)
   unfolding then leaves_answer_of without_table list_of output_of nodes_in answer_of table_plan_of plan_for
-  plan-says (refused n l) out = stop-says n (record { 0 = l }) out
+  plan-says (refused n l) out = stop-says (record { number = n; line = record { 0 = l } }) out
   plan-says (yes xs) out =
       record {
         plan =
-            ap (λ h. record { answer = Counted (length xs) h; parents = f.parents; depths = f.depths; count = f.count }) (found.hops z)
-            ∙ ap₂ (λ qs ds. record { answer = Counted (length xs) (hops ls); parents = qs; depths = ds; count = f.count }) (found.parents z) (found.depths z)
-            ∙ ap (λ n. record { answer = Counted (length xs) (hops ls); parents = parents_in (nodes ls); depths = depths_in (nodes ls); count = n }) (found.count z ∙ sym (nodes-length ls));
+            ap (λ h. record { answer = Ok (record { leaves = length xs; hops = h }); parents = f.parents; depths = f.depths; count = f.count }) (found.hops z)
+            ∙ ap₂ (λ qs ds. record { answer = Ok (record { leaves = length xs; hops = hops ls }); parents = qs; depths = ds; count = f.count }) (found.parents z) (found.depths z)
+            ∙ ap (λ n. record { answer = Ok (record { leaves = length xs; hops = hops ls }); parents = parents_in (nodes ls); depths = depths_in (nodes ls); count = n }) (found.count z ∙ sym (nodes-length ls));
         wrote = refl;
       }
 

@@ -1,11 +1,12 @@
 -- The answer of the second engine in the code's numbers, and what it leaves in a table.
-use Rattle.std.specs.Prelude.{ℕ, List, [], length}
+use Rattle.std.specs.Prelude.{ℕ, List, [], length, Result}
 use Rattle.format.specs.Calls.{Answer, refused, yes}
 use Rattle.format.specs.declared.Node.{Node}
+use Rattle.format.specs.declared.Refusal.{Refusal}
 use Rattle.format.specs.Table.{leafing_table}
 use Rattle.program_table.specs.Nodes.{in_front}
 use Rattle.read.specs.Answers.{output_of}
-use Rattle.programs.specs.declared.LeavesAnswer.{LeavesAnswer}
+use Rattle.programs.specs.declared.Counted.{Counted}
 use Rattle.programs.specs.Answers.{leaves_answer_of, list_of}
 
 -- the answer without the table, as the first engine gives it
@@ -21,7 +22,7 @@ nodes_in (yes a) = a.2
 -- ---- a call with a text, a catalogue, a table and an output
 
 -- its answer, for a table of `seats` records
-abbrev pub seated_answer : List ℕ → List ℕ → ℕ → List ℕ → LeavesAnswer
+abbrev pub seated_answer : List ℕ → List ℕ → ℕ → List ℕ → Result Counted Refusal
 seated_answer text c seats out = leaves_answer_of (without_table (leafing_table text c (length out) seats))
 
 -- what it leaves in the output: the leaves at the front; a refusal changes nothing

@@ -1,13 +1,10 @@
 -- What is found from the parents, and what goes into the output and the table.
-use Rattle.std.specs.Prelude.{ℕ, ◌≡◌, List, map, length, replicate}
+use Rattle.std.specs.Prelude.{ℕ, ◌≡◌, List, map, length, replicate, Result, Ok, Err}
 use Rattle.format.specs.Programs.{Link, tangled, leaves, hops}
-use Rattle.format.specs.declared.LineNo.{LineNo}
+use Rattle.format.specs.declared.Refusal.{Refusal}
 use Rattle.program_chains.specs.Parents.{in_array}
 use Rattle.format.specs.Calls.{Answer}
 use Rattle.format.specs.declared.Node.{Node}
-use Rattle.read.specs.declared.CountAnswer as parser
-use Rattle.read.specs.declared.CountAnswer.TheVariants.{Refused, Count}
-use Rattle.programs.specs.declared.LeavesAnswer.TheVariants as answer
 use Rattle.programs_by_table.specs.declared.DeepGraph.{DeepGraph}
 use Rattle.programs_by_table.specs.declared.TablePlan.{TablePlan}
 use Rattle.programs.specs.Answers.{leaves_answer_of}
@@ -45,11 +42,11 @@ pub record DeepGraphOf (ls : List Link) (f : DeepGraph) : Type 0 where
   pub counted : f.refusal ≡ 0 → f.leaves.count ≡ length (leaves ls)
 
 -- a plan that changes nothing, because of a refusal
-unfoldable pub stopped_plan_of : ℕ → LineNo → TablePlan
-stopped_plan_of n l = record { answer = answer.Refused n l; parents = replicate 1024 0; depths = replicate 1024 0; count = 0 }
+unfoldable pub stopped_plan_of : Refusal → TablePlan
+stopped_plan_of r = record { answer = Err r; parents = replicate 1024 0; depths = replicate 1024 0; count = 0 }
 
 -- the plan that follows from what was written to the output
-unfoldable pub table_plan_of : parser.CountAnswer → DeepGraph → TablePlan
+unfoldable pub table_plan_of : Result ℕ Refusal → DeepGraph → TablePlan
 unfolding stopped_plan_of
-table_plan_of (Refused n l) f = stopped_plan_of n l
-table_plan_of (Count n) f = record { answer = answer.Counted n f.hops; parents = f.parents; depths = f.depths; count = f.count }
+table_plan_of (Err r) f = stopped_plan_of r
+table_plan_of (Ok n) f = record { answer = Ok (record { leaves = n; hops = f.hops }); parents = f.parents; depths = f.depths; count = f.count }

@@ -11,10 +11,10 @@ ghost use Rattle.accepted.specs.Read.{is_accepted, records_of};
 ghost use Rattle.programs_by_table.specs.Answers.{seated_answer, seated_leaves, nodes_left};
 ghost use Rattle.programs_by_table.specs.Plans.{no_graph_of, DeepGraphOf, stopped_plan_of, table_plan_of, plan_for};
 
-use format::{LineNo, Node};
+use format::{Node, Refusal};
 use program_chains::Ordinals;
-use programs::LeavesAnswer;
-use read::{Checked, CountAnswer};
+use programs::{Counted, LeavesAnswer};
+use read::CountAnswer;
 
 // What is found from the parents: 0, 22 or 23 (the last two with nothing else); the parents, the depths and the number of programs; and the leaves.
 #[derive(Clone, Copy)]
@@ -59,10 +59,9 @@ fn find(text: &[u8], kept: &[u8]) -> DeepGraph
     let list = parents.list;
     let count = parents.count;
     let links = &list[..count];
-    let known = program_depths::find_depths(links);
-    if known.cycle {
+    let Some(known) = program_depths::find_depths(links) else {
         return nothing(23);
-    }
+    };
     let leaves = program_chains::leaves(links);
     let depths = known.list;
     DeepGraph {
@@ -85,13 +84,12 @@ pub struct TablePlan {
 }
 
 // A refusal, with nothing for the table.
-fn stopped(n: u8, line: LineNo) -> TablePlan
-    ensures { result ≡ stopped_plan_of n line }
+fn stopped(refusal: Refusal) -> TablePlan
+    ensures { result ≡ stopped_plan_of refusal }
 {
     let none: [u32; 1024] = [0; 1024];
-    let answer = LeavesAnswer::Refused(n, line);
     TablePlan {
-        answer,
+        answer: Err(refusal),
         parents: none,
         depths: none,
         count: 0,
@@ -103,9 +101,12 @@ fn planned(a: CountAnswer, found: DeepGraph) -> TablePlan
     ensures { result ≡ table_plan_of a found }
 {
     match a {
-        CountAnswer::Refused(n, line) => stopped(n, line),
-        CountAnswer::Count(n) => {
-            let answer = LeavesAnswer::Counted(n, found.hops);
+        Err(refusal) => stopped(refusal),
+        Ok(leaves) => {
+            let answer = Ok(Counted {
+                leaves,
+                hops: found.hops,
+            });
             let parents = found.parents;
             let depths = found.depths;
             TablePlan {
@@ -124,24 +125,20 @@ pub fn make_plan(text: &[u8], catalogue: &[u8], seats: usize, out: &mut [u32]) -
     ensures plan { result ≡ plan_for (leafing_table text.now catalogue.now (length out.old) seats) }
     ensures wrote { out.new ≡ seated_leaves text.now catalogue.now seats out.old }
 {
-    match read::check(text, catalogue) { // 21 comes before 22
-        Checked::Refused(n, line) => stopped(n, line),
-        Checked::Fresh => {
-            let found = find(text, catalogue);
-            if found.refusal != 0 {
-                return stopped(found.refusal, LineNo(0));
-            }
-            if seats < found.count {
-                return stopped(20, LineNo(0));
-            }
-            let leaves = found.leaves;
-            let ordinals = leaves.list;
-            planned(
-                programs::put_ordinals(out, &ordinals[..leaves.count]),
-                found,
-            )
-        }
+    if let Err(refusal) = read::check(text, catalogue) { // 21 comes before 22
+        return stopped(refusal);
     }
+    let found = find(text, catalogue);
+    if found.refusal != 0 {
+        return stopped(Refusal::of_text(found.refusal));
+    }
+    if seats < found.count {
+        return stopped(Refusal::of_text(20));
+    }
+    let leaves = found.leaves;
+    let ordinals = leaves.list;
+    let written = programs::put_ordinals(out, &ordinals[..leaves.count]);
+    planned(written, found)
 }
 
 // Writes the leaves to the front of `out`, in the order of noodles-sam, and the parent and the depth of each program to the front of `table`; answers

@@ -9,7 +9,7 @@ use lib.Dec.{leb}
 use Rattle.format.specs.Bytes.{any}
 use Rattle.format.specs.Records.{Record}
 use Rattle.format.specs.Reading.{of_kind}
-use Rattle.format.specs.Programs.{Link, programs, program_of, links, tangled}
+use Rattle.format.specs.Programs.{programs, program_of, links, tangled}
 use Rattle.format.specs.Tidy.{tidy, unwritable}
 use Rattle.format.specs.Calls.{Answer, refused, then, fresh, untangled, writing}
 use Rattle.accepted.specs.Read.{records_of}

@@ -36,10 +36,8 @@ pub fn mark_needed(parents: &[u32], used: &[u32]) -> [bool; 1024]
     ensures { result ≡ needed_marks (links_of parents.now) used.now }
 {
     let mut marks: [bool; 1024] = [false; 1024];
-    let mut i: usize = 0;
-    while i < used.len() {
-        mark_up(parents, &mut marks, used[i]);
-        i += 1;
+    for &u in used {
+        mark_up(parents, &mut marks, u);
     }
     marks
 }

@@ -1,20 +1,19 @@
 -- What judging says of the calls' answers.
-use Prim.Native.Nat.{ℕ, zero, suc, ◌+◌, ◌-◌, ◌≤◌, ◌<◌}
-use mathlib.Core.Path.{◌≡◌, refl, sym, ap, subst, ◌∙◌}
-use mathlib.Core.Bool.{Bool, true, false, cond}
-use mathlib.Core.List.{List, [], ◌∷◌, ◌++◌}
+use Prim.Native.Nat.{ℕ, ◌+◌, ◌≤◌, ◌<◌}
+use mathlib.Core.Path.{◌≡◌, refl, sym, ap, ◌∙◌}
+use mathlib.Core.Bool.{cond}
+use mathlib.Core.List.{List, ◌++◌}
 use native.Mathlib.Omega.{arith}
 use lib.ListN.{length, drop}
-use lib.Dec.{eqb, ltb}
 use borrow.Author.Tests.{lt-ltb, le-ltb}
 use Rattle.format.specs.Bytes.{same}
 use Rattle.format.specs.Records.{Record}
 use Rattle.format.specs.Reading.{refused_text, accept, read_text}
 use Rattle.format.specs.Catalogue.{catalogue}
 use Rattle.format.specs.Calls.{Answer, refused, yes, then, read_answer, records, fitting, reading, current, fresh}
-use Rattle.format.specs.declared.LineNo.{LineNo}
 use Rattle.byte_slices.specs.Over.{over}
-use Rattle.read.specs.declared.CountAnswer.TheVariants as answer
+use Rattle.std.specs.Prelude.{Ok, Err}
+use Rattle.format.specs.declared.Refusal.{Refusal}
 use Rattle.read.specs.Answers.{answer_of, output_of}
 
 -- ---- what the calls then answer
@@ -57,12 +56,12 @@ fits room xs h = rw (le-ltb _ _ h) refl
 -- ---- the answers in the code's numbers
 
 module _ (a : Answer (List ℕ)) (out : List ℕ) where
-  pub refused-answer : (n : ℕ) (l : LineNo) → a ≡ refused n l.0 → (answer.Refused n l ≡ answer_of a) × (out ≡ output_of a out)
+  pub refused-answer : (r : Refusal) → a ≡ refused r.number r.line.0 → (Err r ≡ answer_of a) × (out ≡ output_of a out)
   unfolding answer_of output_of
-  refused-answer n l e = (sym (ap answer_of e), sym (ap (λ x. output_of x out) e))
+  refused-answer r e = (sym (ap answer_of e), sym (ap (λ x. output_of x out) e))
 
-  pub written-answer : (xs last : List ℕ) (n : ℕ) → a ≡ yes xs → n ≡ length xs → last ≡ over out 0 xs → (answer.Count n ≡ answer_of a) × (last ≡ output_of a out)
+  pub written-answer : (xs last : List ℕ) (n : ℕ) → a ≡ yes xs → n ≡ length xs → last ≡ over out 0 xs → (Ok n ≡ answer_of a) × (last ≡ output_of a out)
   unfolding answer_of output_of over
   written-answer xs last n e m w =
       let z : 0 + length xs ≡ length xs = omega arith in
-      (ap answer.Count m ∙ sym (ap answer_of e), w ∙ ap (λ k. xs ++ drop k out) z ∙ sym (ap (λ x. output_of x out) e))
+      (ap Ok m ∙ sym (ap answer_of e), w ∙ ap (λ k. xs ++ drop k out) z ∙ sym (ap (λ x. output_of x out) e))

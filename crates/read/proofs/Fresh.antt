@@ -9,16 +9,13 @@ use Rattle.format.specs.Records.{Record}
 use Rattle.format.specs.Reading.{Reading, refused_text, accept, read_text}
 use Rattle.format.specs.Catalogue.{catalogue}
 use Rattle.format.specs.Calls.{Answer, refused, yes, then, fresh}
-use Rattle.format.specs.declared.LineNo.{LineNo}
 use Rattle.byte_slices.proofs.Equal.{same-equal}
 use Rattle.lists.proofs.Bools.{never}
 use Rattle.accepted.specs.Read.{kept, records_of}
-use Rattle.read.specs.declared.Checked.{Checked}
-use Rattle.read.specs.declared.Checked.TheVariants.{Refused, Fresh}
+use Rattle.std.specs.Prelude.{Result, Ok, Err, ⊤}
+use Rattle.format.specs.declared.Refusal.{Refusal}
 use Rattle.accepted_rule.specs.Rule.{ReadsBy, is_once}
 use Rattle.accepted_rule.proofs.Rule.{once-reads}
-use Rattle.read.specs.declared.CheckedText.{CheckedText}
-use Rattle.read.specs.declared.CheckedText.TheVariants as text
 use Rattle.read.specs.Answers.{checked_of, checked_text_of, without_rule}
 use Rattle.read.proofs.AnswerCases.{fresh-refused, fresh-reads}
 
@@ -39,20 +36,19 @@ without-rule once (refused n l) = refl
 without-rule once (yes rs) = refl
 
 module _ (t c : List ℕ) where
-  answer-refused : (a : Answer (List Record)) (n : ℕ) (l : LineNo) → checked_of a ≡ Refused n l → a ≡ refused n l.0
+  answer-refused : (a : Answer (List Record)) (r : Refusal) → checked_of a ≡ Err r → a ≡ refused r.number r.line.0
   unfolding checked_of
-  answer-refused (refused m k) n l e =
-      let x : m ≡ n = cc in
-      let y : ◌≡◌ {A = LineNo} (record { 0 = k }) l = cc in
-      rw (x, ← y) refl
-  answer-refused (yes rs) n l e = absurd (let z : ◌≡◌ {A = ℕ} 0 1 = cc in omega arith)
+  answer-refused (refused m k) r e =
+      let x : ◌≡◌ {A = Refusal} (record { number = m; line = record { 0 = k } }) r = cc in
+      rw (← x) refl
+  answer-refused (yes rs) r e = absurd (let z : ◌≡◌ {A = ℕ} 0 1 = cc in omega arith)
 
   -- a refusal is not fresh
-  never-fresh : (n l : ℕ) → checked_of (refused n l) ≡ Fresh → ⊥
+  never-fresh : (n l : ℕ) → checked_of (refused n l) ≡ Ok tt → ⊥
   unfolding checked_of
   never-fresh n l e = let z : ◌≡◌ {A = ℕ} 0 1 = cc in omega arith
 
-  pub check-fresh : checked_of (fresh t c) ≡ Fresh → Current t c
+  pub check-fresh : checked_of (fresh t c) ≡ Ok tt → Current t c
   unfolding records_of kept
   check-fresh e = go (read_text t) refl
     where
@@ -72,30 +68,30 @@ module _ (t c : List ℕ) where
       go (accept rs) q = judged rs q (same c (catalogue rs)) refl
 
   -- by the word of the check
-  pub refused-by : {w : Checked} → w ≡ checked_of (fresh t c) → (n : ℕ) (l : LineNo) → w ≡ Refused n l → fresh t c ≡ refused n l.0
-  refused-by said n l e = answer-refused (fresh t c) n l (sym said ∙ e)
+  pub refused-by : {w : Result ⊤ Refusal} → w ≡ checked_of (fresh t c) → (r : Refusal) → w ≡ Err r → fresh t c ≡ refused r.number r.line.0
+  refused-by said r e = answer-refused (fresh t c) r (sym said ∙ e)
 
-  pub fresh-by : {w : Checked} → w ≡ checked_of (fresh t c) → w ≡ Fresh → Current t c
+  pub fresh-by : {w : Result ⊤ Refusal} → w ≡ checked_of (fresh t c) → w ≡ Ok tt → Current t c
   fresh-by said e = check-fresh (sym said ∙ e)
 
   -- by the word of the check that tells the rule too
-  module _ {w : CheckedText} (said : w ≡ checked_text_of (is_once t) (fresh t c)) where
+  module _ {w : Result Bool Refusal} (said : w ≡ checked_text_of (is_once t) (fresh t c)) where
     told : without_rule w ≡ checked_of (fresh t c)
     told = ap without_rule said ∙ without-rule (is_once t) (fresh t c)
 
-    pub text-refused-by : (n : ℕ) (l : LineNo) → w ≡ text.Refused n l → fresh t c ≡ refused n l.0
+    pub text-refused-by : (r : Refusal) → w ≡ Err r → fresh t c ≡ refused r.number r.line.0
     unfolding without_rule
-    text-refused-by n l e = refused-by told n l (ap without_rule e)
+    text-refused-by r e = refused-by told r (ap without_rule e)
 
-    pub text-fresh-by : (once : Bool) → w ≡ text.Fresh once → Current t c
+    pub text-fresh-by : (once : Bool) → w ≡ Ok once → Current t c
     unfolding without_rule
     text-fresh-by once e = fresh-by told (ap without_rule e)
 
-    pub rule-by : (once : Bool) → w ≡ text.Fresh once → ReadsBy once t
+    pub rule-by : (once : Bool) → w ≡ Ok once → ReadsBy once t
     unfolding checked_text_of
     rule-by once e = subst (λ b. ReadsBy b t) (go (fresh t c) (sym said ∙ e)) (once-reads t (records_of t) (text-fresh-by once e).reads)
       where
-        go : (a : Answer (List Record)) → checked_text_of (is_once t) a ≡ text.Fresh once → is_once t ≡ once
+        go : (a : Answer (List Record)) → checked_text_of (is_once t) a ≡ Ok once → is_once t ≡ once
         go (refused n l) e = absurd (never (cc))
         go (yes rs) e = cc
 

@@ -1,15 +1,14 @@
 -- The lines of an accepted text, one after another: the records before a line, and those from it on.
-use Prim.Native.Nat.{ℕ, zero, suc, ◌+◌, ◌-◌, ◌≤◌, ◌<◌}
+use Prim.Native.Nat.{ℕ, ◌+◌, ◌-◌, ◌≤◌, ◌<◌}
 use mathlib.Core.Path.{◌≡◌, refl, sym, ap, subst, ◌∙◌}
-use mathlib.Core.Bool.{Bool, true, false}
+use mathlib.Core.Bool.{Bool, true}
 use mathlib.Core.List.{List, [], ◌∷◌, ◌++◌, append_assoc, append-nil}
 use native.Mathlib.Omega.{arith}
 use lib.ListN.{length, take, drop, length-append, length-take, length-drop, drop_of_length-le}
 use lib.Seq.{drop-drop}
-use Rattle.format.specs.Lines.{Piece, lines, lines_from}
+use Rattle.format.specs.Lines.{lines, lines_from}
 use Rattle.format.specs.Records as records
 use Rattle.format.specs.Records.{Record, Line, refused_line, read}
-use Rattle.format.specs.Reading.{accept, read_text}
 use Rattle.byte_slices.specs.First.{first_line}
 use Rattle.byte_slices.specs.declared.Cut.{Cut}
 use Rattle.byte_slices.proofs.Lines.{lines_none}

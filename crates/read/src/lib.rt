@@ -11,32 +11,19 @@ ghost use Rattle.accepted.specs.Read.{records_of};
 ghost use Rattle.accepted_rule.specs.Rule.{is_once};
 ghost use Rattle.read_judge.specs.Judged.{judgement};
 ghost use Rattle.read.specs.Accepted.{AcceptedText};
-ghost use Rattle.read.specs.Answers.{answer_of, output_of, checked_of, checked_text_of, without_rule};
+ghost use Rattle.read.specs.Answers.{answer_of, output_of, checked_of, checked_text_of};
 
-use catalogue_lines::Matched;
-use format::LineNo;
-use read_judge::Judged;
+use format::Refusal;
+use read_judge::{Accepted, Judged};
 
-// A refusal and its line, or how many bytes or ordinals were written.
-#[derive(Clone, Copy)]
-pub enum CountAnswer {
-    Refused(u8, LineNo),
-    Count(usize),
-}
+// How many bytes or ordinals were written, or why none were.
+pub type CountAnswer = Result<usize, Refusal>;
 
-// A refusal and its line, or that the catalogue is this text's.
-#[derive(Clone, Copy)]
-pub enum Checked {
-    Refused(u8, LineNo),
-    Fresh,
-}
+// That the catalogue is this text's, or why it is not.
+pub type Checked = Result<(), Refusal>;
 
 // The same, for those who go over the lines again: whether no tag is repeated in any of them.
-#[derive(Clone, Copy)]
-pub enum CheckedText {
-    Refused(u8, LineNo),
-    Fresh(bool),
-}
+pub type CheckedText = Result<bool, Refusal>;
 
 // Writes the catalogue of an accepted text to the front of `out`.
 fn put_catalogue(text: &[u8], strict: bool, out: &mut [u8])
@@ -67,14 +54,8 @@ fn is_catalogue(text: &[u8], strict: bool, kept: &[u8]) -> bool
     while at < text.len() {
         let cut = byte_slices::first_line(&text[at..]);
         let end = at + cut.len;
-        let Matched::Upto(next) = catalogue_lines::same_record(
-            kept,
-            o,
-            &text[at..end],
-            at,
-            line,
-            strict,
-        ) else {
+        let Some(next) = catalogue_lines::same_record(kept, o, &text[at..end], at, line, strict)
+        else {
             return false;
         };
         o = next;
@@ -90,16 +71,12 @@ fn read_judged(text: &[u8], judged: Judged, kept: &mut [u8]) -> CountAnswer
     ensures answer { result ≡ answer_of (reading text.now (length kept.old)) }
     ensures wrote { kept.new ≡ output_of (reading text.now (length kept.old)) kept.old }
 {
-    match judged {
-        Judged::Refused(n, line) => CountAnswer::Refused(n, line),
-        Judged::Accepted(size, once) => {
-            if kept.len() < size {
-                return CountAnswer::Refused(20, LineNo(0));
-            }
-            put_catalogue(text, once, kept);
-            CountAnswer::Count(size)
-        }
+    let Accepted { size, once } = judged?;
+    if kept.len() < size {
+        return Err(Refusal::of_text(20));
     }
+    put_catalogue(text, once, kept);
+    Ok(size)
 }
 
 // Reads `text`: writes its catalogue to the front of `kept`, or answers the first refusal and changes nothing.
@@ -126,18 +103,14 @@ fn check_judged(text: &[u8], judged: Judged, kept: &[u8]) -> CheckedText
     requires { judged ≡ judgement text.now }
     ensures { result ≡ checked_text_of (is_once text.now) (fresh text.now kept.now) }
 {
-    match judged {
-        Judged::Refused(n, line) => CheckedText::Refused(n, line),
-        Judged::Accepted(size, once) => {
-            if size != kept.len() {
-                return CheckedText::Refused(21, LineNo(0));
-            }
-            if is_catalogue(text, once, kept) {
-                return CheckedText::Fresh(once);
-            }
-            CheckedText::Refused(21, LineNo(0))
-        }
+    let Accepted { size, once } = judged?;
+    if size != kept.len() {
+        return Err(Refusal::of_text(21));
     }
+    if is_catalogue(text, once, kept) {
+        return Ok(once);
+    }
+    Err(Refusal::of_text(21))
 }
 
 // Whether `catalogue` is that of `text`, for calls that go over its lines again.
@@ -147,21 +120,12 @@ pub fn check_text(text: &[u8], catalogue: &[u8]) -> CheckedText
     check_judged(text, read_judge::judge(text), catalogue)
 }
 
-// For those who go over no line again.
-fn without_rule(checked: CheckedText) -> Checked
-    ensures { result ≡ without_rule checked }
-{
-    match checked {
-        CheckedText::Refused(n, line) => Checked::Refused(n, line),
-        CheckedText::Fresh(_) => Checked::Fresh,
-    }
-}
-
 // Whether `kept` is the catalogue of `text`. The refusals of reading come first, then 21.
 pub fn check(text: &[u8], catalogue: &[u8]) -> Checked
     ensures { result ≡ checked_of (fresh text.now catalogue.now) }
 {
-    without_rule(check_text(text, catalogue))
+    check_text(text, catalogue)?;
+    Ok(())
 }
 
 // The same as `check`, with a lent work area, which is all zeros afterwards.
@@ -170,5 +134,6 @@ pub fn check_with(text: &[u8], catalogue: &[u8], work: &mut [u32]) -> Checked
     ensures zeros { work.new ≡ all_zeros work.old }
 {
     let judged = read_judge::judge_with(text, work);
-    without_rule(check_judged(text, judged, catalogue))
+    check_judged(text, judged, catalogue)?;
+    Ok(())
 }

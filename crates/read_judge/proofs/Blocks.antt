@@ -1,14 +1,14 @@
 -- The index during the loop over lines: it holds the keys of the lines of one block, and of the lines ahead it is known which one, if any,
 -- is the first with a key of an earlier block.
-use Prim.Native.Nat.{ℕ, zero, suc, ◌+◌, ◌*◌, ◌/◌, ◌≤◌, ◌<◌}
+use Prim.Native.Nat.{ℕ, ◌+◌, ◌*◌, ◌/◌, ◌≤◌, ◌<◌}
 use mathlib.Core.Path.{◌≡◌, refl, sym, ap, ap₂, subst, ◌∙◌}
 use mathlib.Core.Bool.{Bool, true, false, ◌||◌, cond, false≢true}
 use mathlib.Core.List.{List, [], ◌∷◌, ◌++◌, append_assoc, append-nil}
 use native.Mathlib.Omega.{arith}
 use lib.ListN.{length, take, drop, replicate, length-append, length-replicate, drop_of_length-le}
 use lib.Dec.{eqb, ltb}
-use borrow.Author.Tests.{ne_eqb, eq-eqb, eqb-true, eqb-false, ltb-true, ltb-false, lt-ltb, le-ltb}
-use Rattle.format.specs.Lines.{Piece, lines, lines_from}
+use borrow.Author.Tests.{ne_eqb, eq-eqb, ltb-true}
+use Rattle.format.specs.Lines.{Piece, lines_from}
 use Rattle.format.specs.Records as records
 use Rattle.format.specs.Records.{Record, Line, refused_line, read}
 use Rattle.format.specs.Reading.{admitted}
@@ -19,8 +19,6 @@ use Rattle.byte_slices.specs.First.{first_line}
 use Rattle.byte_slices.specs.Stands.{Stands, Each}
 use Rattle.byte_slices.proofs.Lines.{lines_none}
 use Rattle.accepted.specs.Pieces.{pieces}
-use Rattle.lists.specs.Pairs.{Pairs}
-use Rattle.lists.proofs.Bools.{or-false}
 use Rattle.accepted.proofs.Onward.{lines-count}
 use Rattle.accepted.proofs.Ahead.{ahead-one}
 use Rattle.record.specs.declared.Head.{Head}
@@ -34,7 +32,7 @@ use Rattle.accepted.proofs.LineKeys.{line-ended}
 use Rattle.key_index.proofs.HeldKeys.{told_in, told_none, told-append, told-taken, found-told, keys-snoc, ended-snoc, entering-length, entering-holds, values-few}
 use Rattle.read_judge.specs.declared.Block.{Block}
 use Rattle.read_judge.specs.Blocks.{clash_of, turned, emptied}
-use Rattle.read_judge.proofs.Judging.{Judging, judging-start, judging-on, passed-are, line-stands}
+use Rattle.read_judge.proofs.Judging.{Judging, judging-start, judging-on, line-stands}
 use Rattle.key_look.specs.declared.Seed.{Seed}
 
 -- emptying leaves the length

@@ -1,16 +1,15 @@
 -- What holds of the loop over a text's lines at a line, and one step of it.
-use Prim.Native.Nat.{ℕ, zero, suc, ◌+◌, ◌-◌, ◌*◌, ◌≤◌, ◌<◌}
-use mathlib.Core.Path.{◌≡◌, refl, sym, ap, ap₂, subst, ◌∙◌}
-use mathlib.Core.Bool.{Bool, true, false, cond}
-use mathlib.Core.List.{List, [], ◌∷◌, ◌++◌, append_assoc, append-nil}
+use Prim.Native.Nat.{ℕ, ◌+◌, ◌-◌, ◌*◌, ◌≤◌, ◌<◌}
+use mathlib.Core.Path.{◌≡◌, refl, sym, ap, ap₂, ◌∙◌}
+use mathlib.Core.Bool.{Bool}
+use mathlib.Core.List.{List, [], ◌∷◌, ◌++◌, append_assoc}
 use native.Mathlib.Omega.{arith}
 use lib.ListN.{length, take, drop, length-append, length-drop, drop_of_length-le}
 use lib.Seq.{drop-drop, length-take-le, take_at}
-use lib.Dec.{eqb}
 use Rattle.format.specs.Lines.{Piece, lines, lines_from}
 use Rattle.format.specs.Records as records
 use Rattle.format.specs.Records.{Record, header, reference, group, program, comment, code, Line, refused_line, read, others}
-use Rattle.format.specs.Reading.{Reading, refused_text, accept, of_kind, admitted, read_on, read_from}
+use Rattle.format.specs.Reading.{of_kind, admitted, read_on, read_from}
 use Rattle.format.specs.Catalogue.{catalogue}
 use Rattle.byte_slices.specs.First.{first_line}
 use Rattle.byte_slices.specs.Stands.{Stands}
@@ -20,10 +19,12 @@ use Rattle.accepted_rule.specs.Rule.{is_once}
 use Rattle.accepted.proofs.Onward.{read_first, read_none}
 use Rattle.lists.proofs.Pairs.{pairs-length}
 use Rattle.accepted.proofs.OfKind.{of_kind-append}
-use Rattle.record.specs.Head.{head_of, record_head}
+use Rattle.record.specs.Head.{record_head}
 use Rattle.read_admission.specs.Admission.{programs_of}
 use Rattle.read_admission.proofs.Programs.{programs-one}
-use Rattle.read_judge.specs.declared.Judged.TheVariants.{Refused, Accepted}
+use Rattle.std.specs.Prelude.{Result, Ok, Err}
+use Rattle.format.specs.declared.Refusal.{Refusal}
+use Rattle.read_judge.specs.declared.Accepted.{Accepted}
 use Rattle.read_judge.specs.Judged.{judged_of, judged_by}
 
 -- at the line that starts at `at`, the line number `n`: the lines before it are records
@@ -66,11 +67,14 @@ pairs-snoc R (a ∷ xs) (b ∷ ys) x y p r = (p.0, pairs-snoc R xs ys x y p.1 r)
 
 module _ (strict : Bool) (t : List ℕ) (at n programs size : ℕ) (j : Judging strict t at n programs size) where
   -- no line is left
-  pub judging-end : (once : Bool) → is_once t ≡ once → length t ≤ at → Accepted size once ≡ judged_by strict t
+  pub judging-end : (once : Bool) → is_once t ≡ once → length t ≤ at → ◌≡◌ {A = Result Accepted Refusal} (Ok (record { size = size; once = once })) (judged_by strict t)
   unfolding judged_by judged_of
   judging-end once o h =
-      ap₂ Accepted j.sized (sym o)
+      ap₂ answer j.sized (sym o)
       ∙ sym (ap (judged_of (is_once t)) (j.left ∙ ap (λ l. read_from strict n j.before (lines_from at l)) (drop_of_length-le t h) ∙ read_none strict n j.before at))
+    where
+      answer : ℕ → Bool → Result Accepted Refusal
+      answer size once = Ok (record { size = size; once = once })
 
   pub few-lines : n ≤ length (lines t)
   few-lines = omega (arith, j.counted, pairs-length (λ p r. records.line strict p ≡ read r) j.passed j.before j.pairs, ap length j.split, length-append j.passed (lines_from at (drop at t)))
@@ -115,7 +119,7 @@ module _ (strict : Bool) (t : List ℕ) (at n programs size : ℕ) (j : Judging 
 
     -- the line is refused
     pub judging-refused : (m : ℕ) → admitted strict j.before (record { at = at; bytes = take (first_line (drop at t)).len (drop at t) }) ≡ refused_line m
-        → Refused m (record { 0 = n }) ≡ judged_by strict t
+        → ◌≡◌ {A = Result Accepted Refusal} (Err (record { number = m; line = record { 0 = n } })) (judged_by strict t)
     unfolding judged_by judged_of read_on
     judging-refused m e = sym (ap (judged_of (is_once t)) (onward ∙ ap (read_on n (λ r. read_from strict (n + 1) (j.before ++ (r ∷ [])) (lines_from (at + (first_line (drop at t)).next) (drop (at + (first_line (drop at t)).next) t)))) e))
 

@@ -4,4 +4,3 @@ pub mod Once
 pub mod Parsing
 pub mod Blocks
 pub mod Whole
-pub mod Smaller

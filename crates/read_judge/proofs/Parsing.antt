@@ -1,16 +1,12 @@
 -- The line that is parsed while it is not known that a tag is repeated: by the strict rule first.
 use Prim.Native.Nat.{ℕ}
-use mathlib.Core.Path.{◌≡◌, refl, sym, ap, ◌∙◌}
+use mathlib.Core.Path.{◌≡◌, refl, ap, ◌∙◌}
 use mathlib.Core.Bool.{Bool, true, false, ◌&&◌}
-use mathlib.Core.List.{[], ◌∷◌}
-use denote.Enum.Declared.{tag_of}
-use types.Run.{OneOf, miss}
 use Rattle.format.specs.Lines.{Piece}
-use Rattle.format.specs.Records.{Record, header, reference, group, program, comment, Line, refused_line, read, line}
+use Rattle.format.specs.Records.{header, reference, group, program, comment, Line, refused_line, read, line}
 use Rattle.accepted.specs.Read.{is_read}
 use Rattle.lists.proofs.Bools.{never}
 use Rattle.accepted_line.proofs.Lax.{line-lax}
-use Rattle.record.specs.contracts.Head.{the_type}
 use Rattle.record.specs.declared.Head.{Head}
 use Rattle.record.specs.declared.Head.TheVariants as head
 use Rattle.record.specs.Head.{head_of, record_head}

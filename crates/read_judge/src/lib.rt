@@ -1,7 +1,7 @@
 // Judges a whole text line by line: answers its first refusal, or the size of its catalogue.
 #![tactic(auto)]
 
-ghost use Rattle.std.specs.Prelude.{◌≡◌, ◌||◌, true, false, cond, [], ◌+◌, ◌*◌, ◌≤◌, ◌<◌, length, drop, ltb};
+ghost use Rattle.std.specs.Prelude.{◌≡◌, ◌||◌, true, false, [], ◌+◌, ◌*◌, ◌≤◌, ◌<◌, length, drop};
 ghost use Rattle.format.specs.Lines.{lines_from};
 ghost use Rattle.format.specs.Work.{all_zeros};
 ghost use Rattle.format.specs.Slots.{Held};
@@ -13,7 +13,7 @@ ghost use Rattle.read_judge.specs.Blocks.{clash_of, turned, emptied};
 ghost use Rattle.read_judge.specs.Judged.{judged_by, judgement};
 ghost use Rattle.read_judge.specs.Parsed.{parsed_by};
 
-use format::LineNo;
+use format::{LineNo, Refusal};
 use key_index::counting;
 use key_look::Seed;
 use record::Head;
@@ -30,12 +30,15 @@ pub const OWN_SLOTS: usize = 6144;
 
 pub const LONG_SLOTS: usize = 196608;
 
-// The first refusal and its line; or how many bytes the catalogue has, and whether no tag is repeated in any line.
-#[derive(Clone, Copy)]
-pub enum Judged {
-    Refused(u8, LineNo),
-    Accepted(usize, bool),
+// An accepted text: how many bytes its catalogue has, and whether no tag is repeated in any line.
+#[derive(Clone, Copy, Debug, PartialEq, Eq)]
+pub struct Accepted {
+    pub size: usize,
+    pub once: bool,
 }
+
+// What a text is, or its first refusal.
+pub type Judged = Result<Accepted, Refusal>;
 
 // What looking ahead answers where it is given up: no line has this number.
 const GIVEN_UP: usize = 16777218;
@@ -84,7 +87,7 @@ fn given_up(lines: usize, slots: usize) -> Tried
     ensures lines { result.lines ≡ lines }
     ensures slots { result.slots ≡ slots }
 {
-    let judged = Judged::Refused(0, LineNo(0));
+    let judged = Err(Refusal::of_text(0));
     Tried {
         busy: true,
         judged,
@@ -177,21 +180,11 @@ fn next_block(
     Block { until, clash }
 }
 
-// Whether an earlier line has the key: a line of this block, or one of an earlier block.
-fn is_used(known: bool, clashes: bool) -> bool
-    ensures { result ≡ (known || clashes) }
-{
-    if known {
-        return true;
-    }
-    clashes
-}
-
-// 0, or the refusal of a line with this head.
+// 0, or the refusal of a line with this head. An earlier line has its key if one of this block does, `known`, or one of an earlier block, `clashes`.
 fn barred(count: usize, programs: usize, head: Head, known: bool, clashes: bool) -> u8
     ensures { result ≡ barring (known || clashes) count programs head }
 {
-    read_admission::barred(head, is_used(known, clashes), count, programs)
+    read_admission::barred(head, known || clashes, count, programs)
 }
 
 // What a line is, and whether no tag is repeated up to its end.
@@ -260,7 +253,7 @@ fn judge_along(text: &[u8], way: Way, area: &mut [u32]) -> Tried
         let cut = byte_slices::first_line(&text[at..]);
         let next = at + cut.next;
         if at == text.len() {
-            return ended(Judged::Accepted(size, once), line, slots);
+            return ended(Ok(Accepted { size, once }), line, slots);
         }
         let end = at + cut.len;
         let parsed = parse_line(&text[at..end], at, way.strict, once);
@@ -274,7 +267,11 @@ fn judge_along(text: &[u8], way: Way, area: &mut [u32]) -> Tried
         }
         let n = barred(line, programs, head, found.known, line == block.clash);
         if n != 0 {
-            return ended(Judged::Refused(n, LineNo(line as u32)), line, slots);
+            let refusal = Refusal {
+                number: n,
+                line: LineNo(line as u32),
+            };
+            return ended(Err(refusal), line, slots);
         }
         programs += read_admission::programs_of(head);
         size += catalogue_lines::entries_size(head);
@@ -310,48 +307,37 @@ fn judge_indexed(text: &[u8], strict: bool, area: &mut [u32]) -> Judged
     judged
 }
 
-// A short text, in blocks of 384 lines. Its area is small, so little has to be cleared.
-fn judge_short(text: &[u8], strict: bool) -> Judged
-    requires { length text.now ≤ 16777216 }
+// A text with an area of this function's own, of so many slots: in blocks of three lines for every four of them.
+fn judge_own<const SLOTS: usize>(text: &[u8], strict: bool) -> Judged
+    requires text_len_bound { length text.now ≤ 16777216 }
+    requires in_bounds { 4 ≤ SLOTS }
+    requires slots_bound { SLOTS ≤ 196608 }
     ensures { result ≡ judged_by strict text.now }
 {
-    let mut area = [0u32; SHORT_SLOTS];
+    let mut area = [0u32; SLOTS];
     judge_indexed(text, strict, &mut area)
 }
 
-// A text of some thousands of lines, in blocks of 4,608.
-fn judge_middle(text: &[u8], strict: bool) -> Judged
-    requires { length text.now ≤ 16777216 }
-    ensures { result ≡ judged_by strict text.now }
-{
-    let mut area = [0u32; OWN_SLOTS];
-    judge_indexed(text, strict, &mut area)
-}
-
-// Any text, in blocks of 147,456 lines, judged `more` times again. Nobody asks for more than once. The function calls itself so that it is compiled
-// as a function of its own: its 768 KiB are on the stack only while it runs, and not in the frames of its callers, which serve short texts too.
+// Any text, in blocks of 147,456 lines. It is compiled as a function of its own, so that its 768 KiB are on the stack only while it runs, and not in the
+// frames of its callers, which serve short texts too.
 #[inline(never)]
-fn judge_long(text: &[u8], strict: bool, more: usize) -> Judged
+fn judge_long(text: &[u8], strict: bool) -> Judged
     requires { length text.now ≤ 16777216 }
     ensures { result ≡ judged_by strict text.now }
 {
-    let mut area = [0u32; LONG_SLOTS];
-    let judged = judge_indexed(text, strict, &mut area);
-    if 0 < more {
-        return judge_long(text, strict, more - 1);
-    }
-    judged
+    judge_own::<LONG_SLOTS>(text, strict)
 }
 
-// A text with an area of this function's own, of 24 KiB at most. This is slow if the text has many more lines than a block takes.
+// A short text, in blocks of 384 lines, or one of some thousands of lines, in blocks of 4,608: a small area takes little clearing. This is slow if
+// the text has many more lines than a block takes.
 fn judge_small(text: &[u8], strict: bool) -> Judged
     requires { length text.now ≤ 16777216 }
     ensures { result ≡ judged_by strict text.now }
 {
     if text.len() <= SHORT {
-        return judge_short(text, strict);
+        return judge_own::<SHORT_SLOTS>(text, strict);
     }
-    judge_middle(text, strict)
+    judge_own::<OWN_SLOTS>(text, strict)
 }
 
 // Judges the lines of a text: answers the first refusal, or the size of the text's catalogue.
@@ -362,7 +348,7 @@ fn judge_lines(text: &[u8], strict: bool) -> Judged
     if text.len() <= MIDDLE {
         return judge_small(text, strict);
     }
-    judge_long(text, strict, text.len() / (format::LONGEST + 1))
+    judge_long(text, strict)
 }
 
 // Judges any bytes: answers 1 if there are too many, the first refusal of their lines, or the size of their catalogue.
@@ -370,16 +356,9 @@ pub fn judge(text: &[u8]) -> Judged
     ensures { result ≡ judgement text.now }
 {
     if format::LONGEST < text.len() {
-        return Judged::Refused(1, LineNo(0));
+        return Err(Refusal::of_text(1));
     }
     judge_lines(text, read_repeat_rule::is_strict(text))
-}
-
-// The smaller of two numbers.
-pub fn least(a: usize, b: usize) -> usize
-    ensures { result ≡ cond (ltb a b) a b }
-{
-    if a < b { a } else { b }
 }
 
 // Judges the lines of a text with the front of a lent area if that is longer than an area of this crate's own. One slot per eight bytes of the text
@@ -392,7 +371,7 @@ fn judge_lent(text: &[u8], strict: bool, area: &mut [u32]) -> Judged
     if text.len() <= MIDDLE {
         return judge_small(text, strict);
     }
-    let n = least(area.len(), text.len() / 8);
+    let n = area.len().min(text.len() / 8);
     if n <= OWN_SLOTS {
         return judge_small(text, strict);
     }
@@ -408,7 +387,7 @@ pub fn judge_with(text: &[u8], area: &mut [u32]) -> Judged
 {
     if format::LONGEST < text.len() {
         key_index::clear(area);
-        return Judged::Refused(1, LineNo(0));
+        return Err(Refusal::of_text(1));
     }
     let judged = judge_lent(text, read_repeat_rule::is_strict(text), area);
     key_index::clear(area);

@@ -8,7 +8,6 @@ ghost use Rattle.format.specs.Reading.{first_version, announced, is_strict};
 ghost use Rattle.field.specs.Spelled.{parsed_version_of};
 ghost use Rattle.read_repeat_rule.specs.Rule.{strict_after};
 
-use field::version::ParsedVersion;
 use format::Version;
 
 // Whether a piece starts with `VN:`.
@@ -19,7 +18,7 @@ fn is_version(piece: &[u8]) -> bool
 }
 
 // The version in the first piece of `src`, between tabs, that starts with `VN:`. The search ends at that piece even if its version can't be read.
-fn first_version(src: &[u8]) -> ParsedVersion
+fn first_version(src: &[u8]) -> Option<Version>
     ensures { result ≡ parsed_version_of (first_version (cut 9 src.now)) }
 {
     let mut at: usize = 0;
@@ -40,13 +39,13 @@ fn first_version(src: &[u8]) -> ParsedVersion
 }
 
 // The version that line 0, given without its ending, announces.
-fn announced(line: &[u8]) -> ParsedVersion
+fn announced(line: &[u8]) -> Option<Version>
     ensures { result ≡ parsed_version_of (announced (record { at = 0; bytes = line.now } ∷ [])) }
 {
     if byte_slices::starts(b"@HD\t", line) {
         return first_version(&line[4..]);
     }
-    ParsedVersion::Invalid
+    None
 }
 
 // Whether repeated tags are refused in `line` and after it, given whether they were before. A version that the line announces decides.
@@ -54,8 +53,8 @@ pub fn is_strict_after(strict: bool, line: &[u8]) -> bool
     ensures { result ≡ strict_after strict (announced (record { at = 0; bytes = line.now } ∷ [])) }
 {
     match announced(line) {
-        ParsedVersion::Invalid => strict,
-        ParsedVersion::Is(version) => !version.is_below(Version::default()),
+        None => strict,
+        Some(version) => !version.is_below(Version::default()),
     }
 }
 

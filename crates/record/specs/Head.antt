@@ -1,14 +1,7 @@
 -- The answer of reading one line: the refusal, or the head of the record.
-use Rattle.std.specs.Prelude.{ℕ, Bool, true, false, ◌&&◌, ◌||◌, cond, List, [], ◌∷◌, ◌++◌, length}
-use Rattle.std.proofs.Math.Option.{Option, none, some}
+use Rattle.std.specs.Prelude.{Bool, true, false, length}
 use Rattle.format.specs.Lines.{Piece}
-use Rattle.format.specs.Decimal.{worth}
-use Rattle.format.specs.Fields.{Field, last_of, settled}
 use Rattle.format.specs.Records.{Record, header, reference, group, program, comment, Line, refused_line, read}
-use Rattle.format.specs.Version.{version}
-use Rattle.format.specs.declared.Version.{Version}
-use Rattle.format.specs.declared.Kind.{Kind}
-use Rattle.format.specs.declared.Kind.TheVariants as kind
 use Rattle.record.specs.declared.Stretch.{Stretch}
 use Rattle.record.specs.declared.Head.{Head}
 use Rattle.record.specs.declared.Head.TheVariants as head

@@ -1,5 +1,5 @@
--- The keys among the fields read so far, in plain numbers, and the head that they make at the end of the line.
-use Rattle.std.specs.Prelude.{ℕ, suc, Bool, true, false, cond, List, length, eqb}
+-- The keys among the fields read so far, and the head that they make at the end of the line.
+use Rattle.std.specs.Prelude.{ℕ, suc, Bool, true, false, cond, List, length, eqb, Some, None}
 use Rattle.std.proofs.Math.Option.{Option, none, some}
 use Rattle.format.specs.Lines.{Piece}
 use Rattle.format.specs.Decimal.{worth}
@@ -8,7 +8,9 @@ use Rattle.format.specs.Version.{version}
 use Rattle.format.specs.declared.Version.{Version}
 use Rattle.format.specs.declared.Kind.{Kind}
 use Rattle.format.specs.declared.Kind.TheVariants.{Header, ReferenceSequence, ReadGroup, Program, Comment}
+use Rattle.std.specs.Prelude as prelude
 use Rattle.field.specs.declared.ParsedField as field
+use Rattle.field.specs.Spelled.{parsed_version_of}
 use Rattle.field_tag.specs.Numbers.{is_version, is_length}
 use Rattle.record.specs.declared.Stretch.{Stretch}
 use Rattle.record.specs.declared.Keys.{Keys}
@@ -56,36 +58,26 @@ length_among ReadGroup fs = 0
 length_among Program fs = 0
 length_among Comment fs = 0
 
--- ---- in plain numbers
+-- ---- as the code keeps it
 
 unfoldable pub stretch_if_there : Option Piece → Stretch
 stretch_if_there none = record { at = 0; len = 0 }
 stretch_if_there (some p) = record { at = p.at; len = length p.bytes }
 
-unfoldable pub is_there : Option Version → Bool
-is_there none = false
-is_there (some v) = true
-
-unfoldable pub numbers : Option Version → Version
-numbers none = record { major = 0; minor = 0 }
-numbers (some v) = v
-
 unfoldable pub plainly : Option Piece → Option Version → ℕ → ℕ → Keys
-unfolding stretch_if_there is_there numbers
+unfolding stretch_if_there parsed_version_of
 plainly p v l n =
     record {
       key_at = (stretch_if_there p).at;
       key_len = (stretch_if_there p).len;
       length = l;
-      major = (numbers v).major;
-      minor = (numbers v).minor;
-      versioned = is_there v;
+      version = parsed_version_of v;
       others = n;
     }
 
 -- before the first field
 abbrev pub no_keys : Keys
-no_keys = record { key_at = 0; key_len = 0; length = 0; major = 0; minor = 0; versioned = false; others = 0 }
+no_keys = record { key_at = 0; key_len = 0; length = 0; version = None; others = 0 }
 
 -- the keys of the fields read so far: a repeated tag counts once
 unfoldable pub keys_of : Kind → List Field → Keys
@@ -101,9 +93,7 @@ with_place at n keys =
       key_at = at;
       key_len = n;
       length = keys.length;
-      major = keys.major;
-      minor = keys.minor;
-      versioned = keys.versioned;
+      version = keys.version;
       others = keys.others;
     }
 
@@ -113,9 +103,7 @@ with_version major minor keys =
       key_at = keys.key_at;
       key_len = keys.key_len;
       length = keys.length;
-      major = major;
-      minor = minor;
-      versioned = true;
+      version = Some (record { major = major; minor = minor });
       others = keys.others;
     }
 
@@ -125,9 +113,7 @@ with_length n keys =
       key_at = keys.key_at;
       key_len = keys.key_len;
       length = n;
-      major = keys.major;
-      minor = keys.minor;
-      versioned = keys.versioned;
+      version = keys.version;
       others = keys.others;
     }
 
@@ -138,9 +124,7 @@ with_other again keys =
       key_at = keys.key_at;
       key_len = keys.key_len;
       length = keys.length;
-      major = keys.major;
-      minor = keys.minor;
-      versioned = keys.versioned;
+      version = keys.version;
       others = cond again keys.others (suc keys.others);
     }
 
@@ -160,10 +144,15 @@ with_field k f at again keys =
 unfoldable pub keyed_head : (Stretch → Head) → Keys → Head
 keyed_head h keys = cond (eqb keys.key_len 0) (head.Refused 15) (h (record { at = keys.key_at; len = keys.key_len }))
 
+-- HD needs VN
+unfoldable pub versioned_head : prelude.Option Version → ℕ → Head
+versioned_head None n = head.Refused 15
+versioned_head (Some v) n = head.Header v n
+
 -- HD needs VN; SQ needs SN, then LN
 unfoldable pub head_from : Kind → Keys → Head
-unfolding keyed_head
-head_from Header keys = cond keys.versioned (head.Header (record { major = keys.major; minor = keys.minor }) keys.others) (head.Refused 15)
+unfolding keyed_head versioned_head
+head_from Header keys = versioned_head keys.version keys.others
 head_from ReferenceSequence keys = keyed_head (λ p. cond (eqb keys.length 0) (head.Refused 16) (head.ReferenceSequence p keys.length keys.others)) keys
 head_from ReadGroup keys = keyed_head (λ p. head.ReadGroup p keys.others) keys
 head_from Program keys = keyed_head (λ p. head.Program p keys.others) keys

@@ -25,15 +25,13 @@ pub enum Head {
     Comment(Stretch),
 }
 
-// What the fields read so far give, in plain numbers. A key has at least one byte and LN is at least 1, so 0 means that there was none yet.
-#[derive(Clone, Copy)]
+// What the fields read so far give. A key has at least one byte and LN is at least 1, so 0 means that there was none yet.
+#[derive(Clone, Copy, Debug, PartialEq, Eq)]
 pub struct Keys {
     pub key_at: usize,
     pub key_len: usize,
     pub length: u64,
-    pub major: u32,
-    pub minor: u32,
-    pub versioned: bool,
+    pub version: Option<Version>,
     pub others: usize,
 }
 
@@ -45,9 +43,7 @@ impl Keys {
             key_at: 0,
             key_len: 0,
             length: 0,
-            major: 0,
-            minor: 0,
-            versioned: false,
+            version: None,
             others: 0,
         }
     }
@@ -65,9 +61,7 @@ impl Keys {
             return self;
         }
         if field_tag::is_version(kind, f.tag_0, f.tag_1) {
-            self.major = f.major;
-            self.minor = f.minor;
-            self.versioned = true;
+            self.version = Some(Version::new(f.major, f.minor));
             return self;
         }
         if field_tag::is_length(kind, f.tag_0, f.tag_1) {
@@ -88,12 +82,10 @@ impl Keys {
             len: self.key_len,
         };
         match kind {
-            Kind::Header => {
-                if !self.versioned {
-                    return Head::Refused(15);
-                }
-                Head::Header(Version::new(self.major, self.minor), self.others)
-            }
+            Kind::Header => match self.version {
+                Some(version) => Head::Header(version, self.others),
+                None => Head::Refused(15),
+            },
             Kind::ReferenceSequence => {
                 if self.key_len == 0 {
                     return Head::Refused(15); // also where LN is missing too

@@ -2,12 +2,12 @@
 use Prim.Native.Nat.{ℕ, suc, ◌+◌}
 use mathlib.Core.Path.{◌≡◌, sym, ap, ◌∙◌}
 use mathlib.Core.List.{List, [], ◌∷◌}
-use mathlib.Core.Bool.{Bool}
 use mathlib.Core.Option.{Option, none, some}
 use native.Mathlib.Omega.{arith}
 use Rattle.format.specs.declared.Kind.{Kind}
-use Rattle.format.specs.Records.{Line, refused_line, kind_of, bodied, kinded}
-use Rattle.record_kind.specs.declared.ParsedKind.{ParsedKind}
+use Rattle.format.specs.Records.{refused_line, kind_of, bodied, kinded}
+use Rattle.std.specs.Prelude.{Result}
+use Rattle.record_kind.specs.declared.KindError.{KindError}
 use Rattle.record_kind.specs.Kind.{parsed_kind_of, kind_at, kind_refusal, KindTold}
 
 pub kind-refused : (s : List ℕ) → KindTold s (kind_at s)
@@ -21,5 +21,5 @@ kind-refused (a ∷ b ∷ s) strict at n e = go (kind_of a b) e
     go (some k) e = absurd (omega (arith, e))
 
 -- whatever is answered as it is there
-pub kind-told : (s : List ℕ) (r : ParsedKind) → r ≡ kind_at s → (r ≡ kind_at s) × KindTold s r
+pub kind-told : (s : List ℕ) (r : Result Kind KindError) → r ≡ kind_at s → (r ≡ kind_at s) × KindTold s r
 kind-told s r e = (e, λ strict at n h. kind-refused s strict at n (ap kind_refusal (sym e) ∙ h))

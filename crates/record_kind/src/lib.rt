@@ -7,44 +7,36 @@ ghost use Rattle.record_kind.specs.Kind.{kind_at, parsed_kind_of, KindTold};
 
 use format::Kind;
 
-#[derive(Clone, Copy)]
-pub enum ParsedKind {
+// Why no kind is read: there is no byte after the `@`, or what is there names no kind.
+#[derive(Clone, Copy, Debug, PartialEq, Eq)]
+pub enum KindError {
     Empty,
     Invalid,
-    Is(Kind),
 }
 
 // The kind that the two bytes after the `@` name.
-pub fn parse_kind(src: &[u8]) -> ParsedKind
+pub fn parse_kind(src: &[u8]) -> Result<Kind, KindError>
     ensures is { result ≡ kind_at src.now }
     ensures refusal { KindTold src.now result }
 {
-    if src.len() == 0 {
-        return ParsedKind::Empty;
+    match src {
+        [] => Err(KindError::Empty),
+        [_] => Err(KindError::Invalid),
+        [a, b, ..] => kind_of(*a, *b),
     }
-    if src.len() == 1 {
-        return ParsedKind::Invalid;
-    }
-    kind_of(src[0], src[1])
 }
 
-fn kind_of(a: u8, b: u8) -> ParsedKind
+// The kind that the bytes `a`, `b` name.
+#[tactic(auto, using(std::proofs::lemmas::Bool::Decides::nat_tests), unfolding(format::specs::Records::kind_of, crate::specs::Kind::parsed_kind_of))]
+fn kind_of(a: u8, b: u8) -> Result<Kind, KindError>
     ensures { result ≡ parsed_kind_of (kind_of a b) }
 {
-    if a == b'H' && b == b'D' {
-        return ParsedKind::Is(Kind::Header);
+    match (a, b) {
+        (b'H', b'D') => Ok(Kind::Header),
+        (b'S', b'Q') => Ok(Kind::ReferenceSequence),
+        (b'R', b'G') => Ok(Kind::ReadGroup),
+        (b'P', b'G') => Ok(Kind::Program),
+        (b'C', b'O') => Ok(Kind::Comment),
+        _ => Err(KindError::Invalid),
     }
-    if a == b'S' && b == b'Q' {
-        return ParsedKind::Is(Kind::ReferenceSequence);
-    }
-    if a == b'R' && b == b'G' {
-        return ParsedKind::Is(Kind::ReadGroup);
-    }
-    if a == b'P' && b == b'G' {
-        return ParsedKind::Is(Kind::Program);
-    }
-    if a == b'C' && b == b'O' {
-        return ParsedKind::Is(Kind::Comment);
-    }
-    ParsedKind::Invalid
 }

@@ -7,6 +7,7 @@ use native.Mathlib.Omega.{arith}
 use lib.ListN.{length, drop, get_or, set, replicate, length-drop}
 use lib.Seq.{drop-drop, get_or-drop}
 use borrow.Author.Tests.{ne_eqb, lt-ltb}
+use Rattle.std.specs.Prelude.{Ok}
 use Rattle.format.specs.Bytes.{any}
 use Rattle.format.specs.Decimal.{span}
 use Rattle.format.specs.Fields.{tagged, is_tag, is_value, is_wide, allows, field, value_field, length_field}
@@ -16,8 +17,7 @@ use Rattle.format.specs.declared.Kind.TheVariants.{ReferenceSequence}
 use Rattle.byte_slices.specs.Upto.{before}
 use Rattle.byte_slices.proofs.Before.{before-length}
 use Rattle.byte_slices.proofs.Lines.{upto_le}
-use Rattle.decimal.specs.Number.{digits_number, number_at_front}
-use Rattle.decimal.specs.declared.Number.TheVariants as number
+use Rattle.decimal.specs.Number.{number_of, digits_number, number_at_front}
 use Rattle.field.specs.Parsed.{kept_by, sized_by, length_field_by, parsed_of}
 use Rattle.field.specs.Taken.{taken_of}
 use Rattle.field.proofs.value.Taken.{a-value}
@@ -25,7 +25,6 @@ use Rattle.field.proofs.Judged.{value-kept, value-length}
 use Rattle.field.proofs.Place.{field-in-place, place-colon, colon-value}
 use Rattle.field.proofs.Shown.{valued-length}
 use Rattle.field_length.specs.Parsed.{parsed_length_of}
-use Rattle.field_length.specs.declared.ParsedLength.TheVariants as parsed
 use Rattle.field_length.proofs.Sized.{length_by, length-sized, span-before}
 use Rattle.field_tag.specs.Numbers.{is_version, is_length}
 use Rattle.record.specs.declared.Keys.{Keys}
@@ -33,7 +32,9 @@ use Rattle.record.specs.declared.Head.TheVariants as head
 use Rattle.record.specs.Head.{head_of}
 use Rattle.record.specs.Keys.{no_keys, with_field, head_from}
 use Rattle.record_parser.specs.Marks.{mark_place, marks_of}
+use Rattle.std.specs.Prelude.{Some}
 use Rattle.record_parser.specs.Plain.{TagAt, LengthTold}
+use Rattle.record_parser.proofs.Made.{same-answer}
 use Rattle.record_parser.proofs.Walked.{Walked, Turned, turned}
 use Rattle.record_parser.proofs.Step.{walked_start, turn_end, turn-shown, told-again, walked}
 
@@ -64,7 +65,7 @@ name-within src n e z h =
     omega (arith, e, v, before-length 9 (drop 7 src), upto_le 9 (drop 7 src), length-drop 7 src)
 
 -- a length that is read whole, and is none too long, is that of LN
-pub length-told : (s : List ℕ) (n : ℕ) → number_at_front (2 ^ 64) s ≡ number.Is n (length s) → n < 2 ^ 31 → LengthTold s n
+pub length-told : (s : List ℕ) (n : ℕ) → number_at_front (2 ^ 64) s ≡ Ok (number_of n (length s)) → n < 2 ^ 31 → (n ≡ 0 → ⊥) → LengthTold s (Some n)
 unfolding number_at_front length_by
 length-told s n e h z =
     sym
@@ -74,16 +75,16 @@ length-told s n e h z =
     ∙ simp (ne_eqb n 0 z, lt-ltb n (2 ^ 31) h))
 
 module _ (src : List ℕ) (n l d : ℕ) (sn : TagAt src 3 83) (name : n ≡ taken_of is_value (before 9 (drop 7 src))) (some : n ≡ 0 → ⊥) (ln : TagAt src (7 + n) 76)
-    (number : parsed.Is l d ≡ parsed_length_of (length_field 0 (span (before 9 (drop (11 + n) src))))) (ends : d ≡ length src - (11 + n)) where
-  name-answer : kept_by 83 78 n ≡ parsed_of ReferenceSequence (field ReferenceSequence 0 (before 9 (drop 4 src)))
+    (number : Ok (number_of l d) ≡ parsed_length_of (length_field 0 (span (before 9 (drop (11 + n) src))))) (ends : d ≡ length src - (11 + n)) where
+  name-answer : Ok (kept_by 83 78 n) ≡ parsed_of ReferenceSequence (field ReferenceSequence 0 (before 9 (drop 4 src)))
   unfolding is_tag is_length is_version taken_of allows is_wide
   name-answer =
       sym
       (ap (parsed_of ReferenceSequence) (value-at src 3 83 sn refl)
       ∙ value-kept 83 78 3 (before 9 (drop 7 src)) ReferenceSequence refl refl (λ z. some (name ∙ z))
-      ∙ ap (kept_by 83 78) (sym name))
+      ∙ ap (λ k. Ok (kept_by 83 78 k)) (sym name))
 
-  length-answer : sized_by d l ≡ parsed_of ReferenceSequence (field ReferenceSequence 0 (before 9 (drop (7 + n + 1) src)))
+  length-answer : Ok (sized_by d l) ≡ parsed_of ReferenceSequence (field ReferenceSequence 0 (before 9 (drop (7 + n + 1) src)))
   unfolding is_tag is_length length_field_by
   length-answer =
       let e : 7 + n + 4 ≡ 11 + n = omega arith in
@@ -103,7 +104,7 @@ module _ (src : List ℕ) (n l d : ℕ) (sn : TagAt src 3 83) (name : n ≡ take
     -- ---- SN
 
     name-turn : Turned ReferenceSequence (at + 3) (drop 4 src) (kept_by 83 78 n)
-    name-turn = turned ReferenceSequence (at + 3) (drop 4 src) (kept_by 83 78 n) name-answer refl
+    name-turn = turned ReferenceSequence (at + 3) (drop 4 src) (Ok (kept_by 83 78 n)) name-answer (kept_by 83 78 n) refl
 
     abbrev name-again : Bool
     name-again = any (tagged name-turn.field.tag₀ name-turn.field.tag₁) start.fields
@@ -126,7 +127,7 @@ module _ (src : List ℕ) (n l d : ℕ) (sn : TagAt src 3 83) (name : n ≡ take
     -- ---- LN
 
     length-turn : Turned ReferenceSequence (at + (7 + n)) (drop (7 + n + 1) src) (sized_by d l)
-    length-turn = turned ReferenceSequence (at + (7 + n)) (drop (7 + n + 1) src) (sized_by d l) length-answer refl
+    length-turn = turned ReferenceSequence (at + (7 + n)) (drop (7 + n + 1) src) (Ok (sized_by d l)) length-answer (sized_by d l) refl
 
     abbrev length-again : Bool
     length-again = any (tagged length-turn.field.tag₀ length-turn.field.tag₁) named.fields
@@ -153,7 +154,7 @@ module _ (src : List ℕ) (n l d : ℕ) (sn : TagAt src 3 83) (name : n ≡ take
     length_some z =
         let s = turn-shown ReferenceSequence (at + (7 + n)) (drop (7 + n + 1) src) (sized_by d l) length-turn in
         let t : is_length ReferenceSequence length-turn.field.tag₀ length-turn.field.tag₁ ≡ true = rw (← s.first, ← s.second) refl in
-        length-turn.told.sized t (ap (λ g. g.length) (sym (length-turn.answer ∙ valued-length ReferenceSequence length-turn.field t)) ∙ z)
+        length-turn.told.sized t (ap (λ g. g.length) (same-answer (valued-length ReferenceSequence length-turn.field t) length-turn.answer) ∙ z)
 
     -- ---- the line ends
 

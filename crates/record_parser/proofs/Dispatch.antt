@@ -1,24 +1,20 @@
 -- The front of a line: `@`, the kind, and what follows it; and lines with an LF or a CR.
-use Prim.Native.Nat.{ℕ, zero, suc, ◌+◌, ◌-◌, ◌≤◌, ◌<◌}
-use mathlib.Core.Path.{◌≡◌, refl, sym, ap, ◌∙◌}
-use mathlib.Core.Bool.{Bool, true, false, ◌&&◌, ◌||◌, cond}
+use Prim.Native.Nat.{ℕ, ◌+◌, ◌≤◌}
+use mathlib.Core.Path.{◌≡◌, refl, ap, ◌∙◌}
+use mathlib.Core.Bool.{Bool, true, false}
 use mathlib.Core.List.{List, [], ◌∷◌}
 use mathlib.Core.Option.{Option, none, some}
 use native.Mathlib.Omega.{arith}
-use lib.ListN.{length, drop, get_or}
-use lib.Seq.{drop-cons, drop-drop}
-use lib.Dec.{eqb}
+use lib.ListN.{length, drop}
 use Rattle.format.specs.Bytes.{any}
-use Rattle.format.specs.Records.{Record, header, reference, group, program, comment, code, Line, refused_line, read, prefixed, kinded, bodied, body, fielded, kind_of, line, breaks}
+use Rattle.format.specs.Records.{Record, header, reference, group, program, comment, code, Line, refused_line, read, prefixed, kinded, bodied, body, kind_of, line, breaks}
 use Rattle.format.specs.declared.Kind.{Kind}
-use Rattle.format.specs.declared.Kind.TheVariants.{Header, ReferenceSequence, ReadGroup, Program, Comment}
 use Rattle.byte_slices.specs.Upto.{leads}
-use Rattle.record_kind.specs.declared.ParsedKind.{ParsedKind}
-use Rattle.record_kind.specs.declared.ParsedKind.TheVariants.{Empty, Invalid, Is}
+use Rattle.std.specs.Prelude.{Result, Ok, Err}
+use Rattle.record_kind.specs.declared.KindError.{KindError}
+use Rattle.record_kind.specs.declared.KindError.TheVariants.{Empty, Invalid}
 use Rattle.record_kind.specs.Kind.{parsed_kind_of, kind_at}
-use Rattle.lists.proofs.Bools.{split}
 use Rattle.accepted.proofs.Clean.{unbroken}
-use Rattle.record.specs.declared.Head.{Head}
 use Rattle.record.specs.Head.{head_of, record_head, has_fields}
 
 -- ---- the `@`
@@ -36,10 +32,10 @@ module _ (strict : Bool) (at : ℕ) where
 
   -- ---- the kind
 
-  pub by_kind : List ℕ → ParsedKind → Line
-  by_kind s Empty = refused_line 4
-  by_kind s Invalid = refused_line 5
-  by_kind s (Is k) = body strict k (at + 2) s
+  pub by_kind : List ℕ → Result Kind KindError → Line
+  by_kind s (Err Empty) = refused_line 4
+  by_kind s (Err Invalid) = refused_line 5
+  by_kind s (Ok k) = body strict k (at + 2) s
 
   pub kinded-at : (s : List ℕ) → kinded strict at s ≡ by_kind (drop 2 s) (kind_at s)
   unfolding kinded kind_at by_kind bodied
@@ -51,19 +47,19 @@ module _ (strict : Bool) (at : ℕ) where
       go none = refl
       go (some k) = refl
 
-  pub kind-empty : (s : List ℕ) → kind_at s ≡ Empty → kinded strict at s ≡ refused_line 4
+  pub kind-empty : (s : List ℕ) → kind_at s ≡ Err Empty → kinded strict at s ≡ refused_line 4
   unfolding by_kind
   kind-empty s e = kinded-at s ∙ ap (by_kind (drop 2 s)) e
 
-  pub kind-invalid : (s : List ℕ) → kind_at s ≡ Invalid → kinded strict at s ≡ refused_line 5
+  pub kind-invalid : (s : List ℕ) → kind_at s ≡ Err Invalid → kinded strict at s ≡ refused_line 5
   unfolding by_kind
   kind-invalid s e = kinded-at s ∙ ap (by_kind (drop 2 s)) e
 
-  pub kind-is : (s : List ℕ) (k : Kind) → kind_at s ≡ Is k → kinded strict at s ≡ body strict k (at + 2) (drop 2 s)
+  pub kind-is : (s : List ℕ) (k : Kind) → kind_at s ≡ Ok k → kinded strict at s ≡ body strict k (at + 2) (drop 2 s)
   unfolding by_kind
   kind-is s k e = kinded-at s ∙ ap (by_kind (drop 2 s)) e
 
-pub kind-long : (s : List ℕ) (k : Kind) → kind_at s ≡ Is k → 2 ≤ length s
+pub kind-long : (s : List ℕ) (k : Kind) → kind_at s ≡ Ok k → 2 ≤ length s
 unfolding kind_at
 kind-long [] k e = absurd (let z : ◌≡◌ {A = ℕ} 0 1 = cc in omega arith)
 kind-long (a ∷ []) k e = absurd (let z : ◌≡◌ {A = ℕ} 0 1 = cc in omega arith)

@@ -1,27 +1,24 @@
 -- A line's fields, one piece after another: what is read before a place, and what is left from it on.
-use Prim.Native.Nat.{ℕ, zero, suc, ◌+◌, ◌-◌, ◌≤◌, ◌<◌}
+use Prim.Native.Nat.{ℕ, zero, suc, ◌+◌, ◌<◌}
 use mathlib.Core.Path.{◌≡◌, refl, sym, ap, ◌∙◌}
-use mathlib.Core.Bool.{Bool, true, false, not, ◌&&◌, ◌||◌, cond}
+use mathlib.Core.Bool.{Bool, true, false, ◌&&◌, cond}
 use mathlib.Core.List.{List, [], ◌∷◌, ◌++◌, append_assoc, append-nil}
-use mathlib.Core.Option.{Option, none, some}
 use mathlib.Core.Logic.{⊎_elim}
 use native.Mathlib.Omega.{arith}
-use native.Mathlib.Numerals.{add-one}
-use lib.ListN.{length, take, drop, get_or, drop_of_length-le}
-use lib.Seq.{drop-cons, drop-drop}
+use lib.ListN.{length, drop, get_or, drop_of_length-le}
+use lib.Seq.{drop-cons}
 use lib.Dec.{eqb}
-use borrow.Author.Tests.{eq-eqb, ne_eqb, eqb-false}
-use Rattle.format.specs.Bytes.{any}
-use Rattle.format.specs.Lines.{Piece, cut, placed}
-use Rattle.format.specs.Fields.{Field, tagged, repeats, JudgedPiece, refused_piece, good, good_then, Scan, scan, onward, field}
-use Rattle.format.specs.Records.{Line, refused_line, read, made, stopped, judged, fielded}
+use borrow.Author.Tests.{ne_eqb, eqb-false}
+use Rattle.format.specs.Lines.{cut, placed}
+use Rattle.format.specs.Fields.{Field, repeats, refused_piece, good, good_then, Scan, scan, onward, field}
+use Rattle.format.specs.Records.{refused_line, made, stopped, judged, fielded}
 use Rattle.format.specs.declared.Kind.{Kind}
 use Rattle.format.specs.declared.Kind.TheVariants.{Header, ReferenceSequence, ReadGroup, Program, Comment}
 use Rattle.byte_slices.specs.Upto.{upto, before}
 use Rattle.byte_slices.proofs.Before.{upto-at, upto-cases}
 use Rattle.byte_slices.proofs.Lines.{upto_le}
 use Rattle.byte_slices.proofs.Pieces.{placed-last, placed-more}
-use Rattle.accepted.proofs.Tags.{repeats-snoc, repeats-more}
+use Rattle.accepted.proofs.Tags.{repeats-more}
 
 -- the fields from a place on, where the line ends or a tab is due
 unfoldable pub tail_scan : Kind → ℕ → List ℕ → Scan

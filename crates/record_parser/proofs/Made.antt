@@ -20,7 +20,10 @@ use Rattle.format.specs.declared.Kind.{Kind}
 use Rattle.format.specs.declared.Kind.TheVariants.{Header, ReferenceSequence, ReadGroup, Program, Comment}
 use Rattle.byte_slices.specs.Stands.{Each}
 use Rattle.field_tag.specs.Numbers.{is_version, is_length}
-use Rattle.field.specs.Parsed.{field_numbers, versioned_by}
+use Rattle.std.specs.Prelude.{Result, Ok}
+use Rattle.field.specs.declared.ParsedField.{ParsedField}
+use Rattle.field.specs.Parsed.{kept_by, sized_by, field_numbers, versioned_by}
+use Rattle.field.specs.Spelled.{parsed_version_of}
 use Rattle.field.proofs.Answer.{Told}
 use Rattle.field.proofs.Shown.{valued-length, valued-kept, told-version, valued-version}
 use Rattle.record.specs.declared.Keys.{Keys}
@@ -30,7 +33,7 @@ use Rattle.record.specs.declared.Head.TheVariants as head
 use Rattle.record.specs.Head.{stretch_of, head_of}
 use Rattle.format.specs.Keys.{is_key}
 use Rattle.record_tags.specs.Others.{unkeyed}
-use Rattle.record.specs.Keys.{key_among, spelt, version_among, worth_if_there, length_among, stretch_if_there, is_there, numbers, plainly, keys_of, with_field, head_from, keyed_head}
+use Rattle.record.specs.Keys.{key_among, spelt, version_among, worth_if_there, length_among, stretch_if_there, plainly, keys_of, with_field, head_from, versioned_head, keyed_head}
 use Rattle.lists.proofs.Bools.{or-true, split, and_left}
 use Rattle.accepted.proofs.Tags.{last_of_snoc, settled-snoc, any_settled, length-put}
 use Rattle.accepted.proofs.Fields.{last_of-of}
@@ -92,38 +95,48 @@ module _ (a b : ℕ) (fs : List Field) (f : Field) where
 plain-path : {p q : Option Piece} {v w : Option Version} {l m n o : ℕ} → p ≡ q → v ≡ w → l ≡ m → n ≡ o → plainly p v l n ≡ plainly q w m o
 plain-path a b c d = λ i. plainly (a i) (b i) (c i) (d i)
 
-module _ (k : Kind) (fs : List Field) (f : Field) where
+-- a field has one answer
+pub same-answer : {r : Result ParsedField ℕ} {g h : ParsedField} → r ≡ Ok g → r ≡ Ok h → g ≡ h
+same-answer {g = g} {h = h} p q = let e : ◌≡◌ {A = Result ParsedField ℕ} (Ok g) (Ok h) = sym p ∙ q in cc
+
+module _ (k : Kind) (fs : List Field) (f : Field) (g : ParsedField) (q : field_numbers k f ≡ Ok g) where
   -- a field that is no key is neither VN nor LN
   module _ (n : is_key k f.tag₀ f.tag₁ ≡ false) (l : is_length k f.tag₀ f.tag₁ ≡ false) (v : is_version k f.tag₀ f.tag₁ ≡ false) where
     other-snoc : key_among k (fs ++ (f ∷ [])) ≡ key_among k fs → version_among k (fs ++ (f ∷ [])) ≡ version_among k fs → length_among k (fs ++ (f ∷ [])) ≡ length_among k fs
-        → keys_of k (fs ++ (f ∷ [])) ≡ with_field k (field_numbers k f) f.value.at (any (tagged f.tag₀ f.tag₁) fs) (keys_of k fs)
+        → keys_of k (fs ++ (f ∷ [])) ≡ with_field k g f.value.at (any (tagged f.tag₀ f.tag₁) fs) (keys_of k fs)
     unfolding keys_of with_field
-    other-snoc p q r = plain-path p q r (others-field k fs f n) ∙ rw (valued-kept k f l v, n) refl
+    other-snoc a b c =
+        let e : kept_by f.tag₀ f.tag₁ (length f.value.bytes) ≡ g = same-answer (valued-kept k f l v) q in
+        plain-path a b c (others-field k fs f n) ∙ rw (← e, n) refl
 
   module _ (y : is_key k f.tag₀ f.tag₁ ≡ true) where
     -- a key that is kept by its place
     place-snoc : is_length k f.tag₀ f.tag₁ ≡ false → is_version k f.tag₀ f.tag₁ ≡ false
         → key_among k (fs ++ (f ∷ [])) ≡ some f.value → version_among k (fs ++ (f ∷ [])) ≡ version_among k fs → length_among k (fs ++ (f ∷ [])) ≡ length_among k fs
-        → keys_of k (fs ++ (f ∷ [])) ≡ with_field k (field_numbers k f) f.value.at (any (tagged f.tag₀ f.tag₁) fs) (keys_of k fs)
+        → keys_of k (fs ++ (f ∷ [])) ≡ with_field k g f.value.at (any (tagged f.tag₀ f.tag₁) fs) (keys_of k fs)
     unfolding keys_of with_field
-    place-snoc l v p q r = plain-path p q r (others-key k fs f y) ∙ rw (valued-kept k f l v, y, v, l) refl
+    place-snoc l v a b c =
+        let e : kept_by f.tag₀ f.tag₁ (length f.value.bytes) ≡ g = same-answer (valued-kept k f l v) q in
+        plain-path a b c (others-key k fs f y) ∙ rw (← e, y, v, l) refl
 
 -- VN of HD
-version-snoc : (fs : List Field) (f : Field) → Told Header f → tagged 86 78 f ≡ true
-    → keys_of Header (fs ++ (f ∷ [])) ≡ with_field Header (field_numbers Header f) f.value.at (any (tagged f.tag₀ f.tag₁) fs) (keys_of Header fs)
-unfolding keys_of with_field key_among version_among length_among is_key is_version is_length versioned_by tagged
-version-snoc fs f t y =
+version-snoc : (fs : List Field) (f : Field) (g : ParsedField) → field_numbers Header f ≡ Ok g → Told Header f → tagged 86 78 f ≡ true
+    → keys_of Header (fs ++ (f ∷ [])) ≡ with_field Header g f.value.at (any (tagged f.tag₀ f.tag₁) fs) (keys_of Header fs)
+unfolding keys_of with_field key_among version_among length_among is_key is_version is_length versioned_by parsed_version_of tagged
+version-snoc fs f g q t y =
+    let e = same-answer (valued-version Header f t y) q in
     plain-path {p = none} {l = 0} refl (ap spelt (last-yes 86 78 fs f y) ∙ (told-version Header f t y).1) refl (others-key Header fs f y)
-    ∙ rw (valued-version Header f t y) refl
+    ∙ rw (← e) refl
 
 -- LN of SQ
-length-snoc : (fs : List Field) (f : Field) → tagged 83 78 f ≡ false → tagged 76 78 f ≡ true
+length-snoc : (fs : List Field) (f : Field) (g : ParsedField) → field_numbers ReferenceSequence f ≡ Ok g → tagged 83 78 f ≡ false → tagged 76 78 f ≡ true
     → keys_of ReferenceSequence (fs ++ (f ∷ []))
-    ≡ with_field ReferenceSequence (field_numbers ReferenceSequence f) f.value.at (any (tagged f.tag₀ f.tag₁) fs) (keys_of ReferenceSequence fs)
+    ≡ with_field ReferenceSequence g f.value.at (any (tagged f.tag₀ f.tag₁) fs) (keys_of ReferenceSequence fs)
 unfolding keys_of with_field key_among version_among length_among is_key is_version is_length tagged
-length-snoc fs f n y =
+length-snoc fs f g q n y =
+    let e : sized_by (length f.value.bytes) (worth f.value.bytes) ≡ g = same-answer (valued-length ReferenceSequence f y) q in
     plain-path {v = none} (last-no 83 78 fs f n) refl (ap worth_if_there (last-yes 76 78 fs f y)) (others-key ReferenceSequence fs f (ap (λ u. tagged 83 78 f || u) y ∙ or-true (tagged 83 78 f)))
-    ∙ rw (valued-length ReferenceSequence f y) refl
+    ∙ rw (← e) refl
 
 -- a tag is only one tag
 not-both : (f : Field) → tagged 76 78 f ≡ true → tagged 83 78 f ≡ false
@@ -136,29 +149,29 @@ not-both f t =
 
 module _ (fs : List Field) (f : Field) where
   -- one more field, whatever the kind
-  pub keys-snoc : (k : Kind) → Told k f
-      → keys_of k (fs ++ (f ∷ [])) ≡ with_field k (field_numbers k f) f.value.at (any (tagged f.tag₀ f.tag₁) fs) (keys_of k fs)
+  pub keys-snoc : (k : Kind) → Told k f → (g : ParsedField) → field_numbers k f ≡ Ok g
+      → keys_of k (fs ++ (f ∷ [])) ≡ with_field k g f.value.at (any (tagged f.tag₀ f.tag₁) fs) (keys_of k fs)
   unfolding key_among version_among length_among is_key is_version is_length tagged
-  keys-snoc Header t =
+  keys-snoc Header t g q =
       split (tagged 86 78 f)
-      (version-snoc fs f t)
-      (λ n. other-snoc Header fs f n refl n refl (ap spelt (last-no 86 78 fs f n)) refl)
-  keys-snoc ReferenceSequence t =
+      (version-snoc fs f g q t)
+      (λ n. other-snoc Header fs f g q n refl n refl (ap spelt (last-no 86 78 fs f n)) refl)
+  keys-snoc ReferenceSequence t g q =
       split (tagged 76 78 f)
-      (λ y. length-snoc fs f (not-both f y) y)
+      (λ y. length-snoc fs f g q (not-both f y) y)
       (λ n.
       split (tagged 83 78 f)
-      (λ y. place-snoc ReferenceSequence fs f (ap (λ u. u || tagged 76 78 f) y) n refl (last-yes 83 78 fs f y) refl (ap worth_if_there (last-no 76 78 fs f n)))
-      (λ m. other-snoc ReferenceSequence fs f (ap (λ u. u || tagged 76 78 f) m ∙ n) n refl (last-no 83 78 fs f m) refl (ap worth_if_there (last-no 76 78 fs f n))))
-  keys-snoc ReadGroup t =
+      (λ y. place-snoc ReferenceSequence fs f g q (ap (λ u. u || tagged 76 78 f) y) n refl (last-yes 83 78 fs f y) refl (ap worth_if_there (last-no 76 78 fs f n)))
+      (λ m. other-snoc ReferenceSequence fs f g q (ap (λ u. u || tagged 76 78 f) m ∙ n) n refl (last-no 83 78 fs f m) refl (ap worth_if_there (last-no 76 78 fs f n))))
+  keys-snoc ReadGroup t g q =
       split (tagged 73 68 f)
-      (λ y. place-snoc ReadGroup fs f y refl refl (last-yes 73 68 fs f y) refl refl)
-      (λ n. other-snoc ReadGroup fs f n refl refl (last-no 73 68 fs f n) refl refl)
-  keys-snoc Program t =
+      (λ y. place-snoc ReadGroup fs f g q y refl refl (last-yes 73 68 fs f y) refl refl)
+      (λ n. other-snoc ReadGroup fs f g q n refl refl (last-no 73 68 fs f n) refl refl)
+  keys-snoc Program t g q =
       split (tagged 73 68 f)
-      (λ y. place-snoc Program fs f y refl refl (last-yes 73 68 fs f y) refl refl)
-      (λ n. other-snoc Program fs f n refl refl (last-no 73 68 fs f n) refl refl)
-  keys-snoc Comment t = other-snoc Comment fs f refl refl refl refl refl refl
+      (λ y. place-snoc Program fs f g q y refl refl (last-yes 73 68 fs f y) refl refl)
+      (λ n. other-snoc Program fs f g q n refl refl (last-no 73 68 fs f n) refl refl)
+  keys-snoc Comment t g q = other-snoc Comment fs f g q refl refl refl refl refl refl
 
 -- ---- the line ends
 
@@ -185,20 +198,20 @@ some_bytes : (k : Kind) (fs : List Field) → Each (Told k) fs → (a b : ℕ) (
 some_bytes k fs h a b p e = let o = last_of-of (Told k) a b fs p h e in rw o.value at o.holds.some
 
 header_made : (fs : List Field) → Each (Told Header) fs → head_from Header (keys_of Header fs) ≡ head_of (made Header fs)
-unfolding head_from keys_of version_among head_of made is_key tagged records.versioned records.announcing is_version
+unfolding head_from versioned_head parsed_version_of keys_of version_among head_of made is_key tagged records.versioned records.announcing is_version
 header_made fs h = go (last_of 86 78 fs) refl ∙ ap (λ l. head_of (records.versioned (settled l) (last_of 86 78 fs))) (sym (without-unkeyed Header 86 78 (λ f. refl) fs))
   where
     n : ℕ
     n = length (settled (unkeyed Header fs))
 
     spell : (o : Option Version) (v : Version) → o ≡ some v
-        → cond (is_there o) (head.Header (record { major = (numbers o).major; minor = (numbers o).minor }) (length (settled (unkeyed Header fs)))) (head.Refused 15)
+        → versioned_head (parsed_version_of o) (length (settled (unkeyed Header fs)))
         ≡ head_of (records.announcing (settled (unkeyed Header fs)) o)
     spell none v e = absurd (let z : ◌≡◌ {A = ℕ} 0 1 = cc in omega arith)
     spell (some w) v e = refl
 
     go : (o : Option Piece) → last_of 86 78 fs ≡ o
-        → cond (is_there (spelt o)) (head.Header (record { major = (numbers (spelt o)).major; minor = (numbers (spelt o)).minor }) (length (settled (unkeyed Header fs)))) (head.Refused 15)
+        → versioned_head (parsed_version_of (spelt o)) (length (settled (unkeyed Header fs)))
         ≡ head_of (records.versioned (settled (unkeyed Header fs)) o)
     go none e = refl
     go (some p) e =

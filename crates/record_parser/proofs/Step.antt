@@ -20,7 +20,7 @@ use Rattle.byte_slices.specs.Stands.{Each}
 use Rattle.byte_slices.proofs.Lines.{upto_le}
 use Rattle.byte_slices.proofs.Before.{upto_take}
 use Rattle.byte_slices.proofs.Run.{upto-onward}
-use Rattle.field.specs.declared.ParsedField as code
+use Rattle.field.specs.declared.ParsedField.{ParsedField}
 use Rattle.field_tag.specs.Numbers.{is_version, is_length}
 use Rattle.field.proofs.Answer.{Told}
 use Rattle.field.proofs.Shown.{Shown, shown}
@@ -57,7 +57,7 @@ three (a ∷ []) n h = absurd (omega arith)
 three (a ∷ b ∷ []) n h = absurd (omega arith)
 three (a ∷ b ∷ c ∷ s) n h = ap (λ k. take k (a ∷ b ∷ c ∷ s)) (let e : 3 + n ≡ suc (suc (suc n)) = omega arith in e)
 
-module _ (kind : Kind) (at : ℕ) (s : List ℕ) (g : code.ParsedField) (t : Turned kind at s g) where
+module _ (kind : Kind) (at : ℕ) (s : List ℕ) (g : ParsedField) (t : Turned kind at s g) where
   f : Field
   f = t.field
 
@@ -84,11 +84,11 @@ module _ (kind : Kind) (at : ℕ) (s : List ℕ) (g : code.ParsedField) (t : Tur
       ∙ rw (t.colon, ← t.kept.first, ← t.kept.second, ← t.kept.bytes) refl
 
 -- what was answered is the field's
-pub turn-shown : (kind : Kind) (at : ℕ) (s : List ℕ) (g : code.ParsedField) (t : Turned kind at s g) → Shown t.field g
-turn-shown kind at s g t = rw t.answer (shown kind t.field t.told)
+pub turn-shown : (kind : Kind) (at : ℕ) (s : List ℕ) (g : ParsedField) (t : Turned kind at s g) → Shown t.field g
+turn-shown kind at s g t = shown kind t.field t.told g t.answer
 
 -- one more field is at most one more other field
-pub with-few : (k : Kind) (g : code.ParsedField) (at : ℕ) (again : Bool) (keys : Keys) → (with_field k g at again keys).others ≤ suc keys.others
+pub with-few : (k : Kind) (g : ParsedField) (at : ℕ) (again : Bool) (keys : Keys) → (with_field k g at again keys).others ≤ suc keys.others
 unfolding with_field
 with-few k g at again keys = go (is_key k g.tag_0 g.tag_1) refl (is_version k g.tag_0 g.tag_1) refl (is_length k g.tag_0 g.tag_1) refl again
   where
@@ -170,7 +170,7 @@ module _ (kind : Kind) (src : List ℕ) (at : ℕ) (strict exact : Bool) (seen :
       ∙ ap (λ l. judged strict kind (prepend w.fields l)) e
       ∙ judged-stop kind w.fields strict n w.once m
 
-  module _ (g : code.ParsedField) (t : Turned kind (at + pos) (drop (pos + 1) src) g) where
+  module _ (g : ParsedField) (t : Turned kind (at + pos) (drop (pos + 1) src) g) where
     more : List Field
     more = w.fields ++ (t.field ∷ [])
 
@@ -257,8 +257,7 @@ module _ (kind : Kind) (src : List ℕ) (at : ℕ) (strict exact : Bool) (seen :
           says =
               ap (with_field kind g (at + pos + 4) (any (tagged t.field.tag₀ t.field.tag₁) w.fields)) w.says
               ∙ ap (λ p. with_field kind g p (any (tagged t.field.tag₀ t.field.tag₁) w.fields) (keys_of kind w.fields)) (sym (t.kept.starts ∙ a))
-              ∙ ap (λ h. with_field kind h t.field.value.at (any (tagged t.field.tag₀ t.field.tag₁) w.fields) (keys_of kind w.fields)) t.answer
-              ∙ sym (keys-snoc w.fields t.field kind t.told);
+              ∙ sym (keys-snoc w.fields t.field kind t.told g t.answer);
           told = each_snoc (Told kind) w.fields t.field w.told t.told;
           marked = rw (s.first, s.second) (marked_more exact seen w.fields w.marked t.field t.tag);
           few = omega (arith, w.few, with-few kind g (at + pos + 4) (any (tagged t.field.tag₀ t.field.tag₁) w.fields) keys);

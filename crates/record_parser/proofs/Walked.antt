@@ -15,10 +15,11 @@ use Rattle.format.specs.declared.Kind.{Kind}
 use Rattle.byte_slices.specs.Upto.{upto, before}
 use Rattle.byte_slices.specs.Stands.{Each}
 use Rattle.byte_slices.proofs.Lines.{upto_le}
-use Rattle.field.specs.declared.ParsedField as code
+use Rattle.std.specs.Prelude.{Result, Ok, Err}
+use Rattle.field.specs.declared.ParsedField.{ParsedField}
 use Rattle.field.specs.Parsed.{parsed_of, field_numbers}
 use Rattle.field.proofs.Anywhere.{field-anywhere}
-use Rattle.field.proofs.Answer.{Told, Found, parsed-bad, parsed-found}
+use Rattle.field.proofs.Answer.{Told, Found, parsed-bad, parsed-numbered, parsed-found}
 use Rattle.field.proofs.Next.{Kept, good-onward, then-onward}
 use Rattle.field.proofs.Place.{field-in-place, place-tag, place-colon, colon-other}
 use Rattle.lists.proofs.Bools.{never, split}
@@ -60,9 +61,9 @@ kept-tag {b = b} {f = f} k t = ap (λ x. is_tag x f.tag₁) k.first ∙ ap (is_t
 -- ---- what the answer to a field says
 
 -- a field that was answered, where the tab before it has the offset `at` and `s` follows that tab
-pub record Turned (kind : Kind) (at : ℕ) (s : List ℕ) (g : code.ParsedField) : Type 0 where
+pub record Turned (kind : Kind) (at : ℕ) (s : List ℕ) (g : ParsedField) : Type 0 where
   pub field : Field
-  pub answer : g ≡ field_numbers kind field
+  pub answer : field_numbers kind field ≡ Ok g
   pub told : Told kind field
   pub kept : Kept (get_or s 0 0) (get_or s 1 0) (at + 1 + 3) (drop 3 s) field
   pub tag : is_tag field.tag₀ field.tag₁ ≡ true
@@ -71,19 +72,20 @@ pub record Turned (kind : Kind) (at : ℕ) (s : List ℕ) (g : code.ParsedField)
   pub onward : tail_scan kind at (9 ∷ s)
       ≡ prepend (field ∷ []) (tail_scan kind (at + 1 + (3 + length field.value.bytes)) (drop (3 + length field.value.bytes) s))
 
-module _ (kind : Kind) (at : ℕ) (s : List ℕ) (g : code.ParsedField) (e : g ≡ parsed_of kind (field kind 0 (before 9 s))) where
+module _ (kind : Kind) (at : ℕ) (s : List ℕ) (r : Result ParsedField ℕ) (e : r ≡ parsed_of kind (field kind 0 (before 9 s))) where
   -- wherever the line is
-  answered : g ≡ parsed_of kind (field kind (at + 1) (before 9 s))
+  answered : r ≡ parsed_of kind (field kind (at + 1) (before 9 s))
   answered = e ∙ sym (field-anywhere kind (at + 1) (before 9 s))
 
-  pub refused-here : (g.stop ≡ 0 → ⊥) → tail_scan kind at (9 ∷ s) ≡ record { fields = []; stop = g.stop }
-  refused-here n =
-      let b = parsed-bad kind (at + 1) (before 9 s) (λ z. n (ap (λ f. f.stop) answered ∙ z)) in
-      turn-bad kind at s g.stop (b ∙ ap (λ f. refused_piece f.stop) (sym answered))
+  pub refused-here : (n : ℕ) → r ≡ Err n → tail_scan kind at (9 ∷ s) ≡ record { fields = []; stop = n }
+  refused-here n q = turn-bad kind at s n (parsed-bad kind (at + 1) n (before 9 s) (sym answered ∙ q))
 
-  pub turned : g.stop ≡ 0 → Turned kind at s g
+  pub numbered-here : (n : ℕ) → r ≡ Err n → n ≡ 0 → ⊥
+  numbered-here n q = parsed-numbered kind (at + 1) n (before 9 s) (sym answered ∙ q)
+
+  pub turned : (g : ParsedField) → r ≡ Ok g → Turned kind at s g
   unfolding parsed_of
-  turned z = go (parsed-found kind (at + 1) s (ap (λ f. f.stop) (sym answered) ∙ z))
+  turned g q = go (parsed-found kind (at + 1) s g (sym answered ∙ q))
     where
       go : Found kind (at + 1) s → Turned kind at s g
       go w = ⊎_elim yes onward w.judged
@@ -98,7 +100,7 @@ module _ (kind : Kind) (at : ℕ) (s : List ℕ) (g : code.ParsedField) (e : g �
               let n : (m : ℕ) → field kind (at + 1) (before 9 s) ≡ refused_piece m → ⊥ = λ m c. never (let q : good f ≡ refused_piece m = sym b ∙ c in cc) in
               record {
                 field = f;
-                answer = answered ∙ ap (parsed_of kind) b;
+                answer = sym (answered ∙ ap (parsed_of kind) b) ∙ q;
                 told = w.told;
                 kept = o.0;
                 tag = kept-tag o.0 (has-tag kind (at + 1) s l n);
@@ -114,7 +116,7 @@ module _ (kind : Kind) (at : ℕ) (s : List ℕ) (g : code.ParsedField) (e : g �
               let n : (m : ℕ) → field kind (at + 1) (before 9 s) ≡ refused_piece m → ⊥ = λ m c. never (let q : good_then f 6 ≡ refused_piece m = sym b ∙ c in cc) in
               record {
                 field = f;
-                answer = answered ∙ ap (parsed_of kind) b;
+                answer = sym (answered ∙ ap (parsed_of kind) b) ∙ q;
                 told = w.told;
                 kept = o.0;
                 tag = kept-tag o.0 (has-tag kind (at + 1) s l n);

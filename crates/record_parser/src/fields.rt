@@ -28,16 +28,14 @@ fn walk_fields(
         if src[pos] != b'\t' {
             return Head::Refused(6);
         }
-        let f = field::parse_field(kind, &src[pos + 1..]);
-        if f.stop != 0 {
-            return Head::Refused(f.stop);
-        }
+        let f = match field::parse_field(kind, &src[pos + 1..]) {
+            Ok(f) => f,
+            Err(refusal) => return Head::Refused(refusal),
+        };
         let mark = super::marks::mark_of(f.tag_0, f.tag_1, exact);
         let again = super::marks::stands_again(&src[3..pos], f.tag_0, f.tag_1, exact, seen[mark]);
-        if strict {
-            if again {
-                return Head::Refused(14);
-            }
+        if strict && again {
+            return Head::Refused(14);
         }
         seen[mark] = true;
         keys = keys.with(kind, f, at + pos + 4, again);

@@ -12,16 +12,13 @@ ghost use Rattle.record.specs.Head.{head_of, has_fields};
 
 use format::Kind;
 use record::{Head, Stretch};
-use record_kind::ParsedKind;
+use record_kind::KindError;
 
 // Whether `src` has an LF or a CR.
 fn has_break(src: &[u8]) -> bool
     ensures { result ≡ any breaks src.now }
 {
-    if byte_slices::upto(src, b'\n') < src.len() {
-        return true;
-    }
-    byte_slices::upto(src, b'\r') < src.len()
+    byte_slices::upto(src, b'\n') < src.len() || byte_slices::upto(src, b'\r') < src.len()
 }
 
 // Reads a CO: one tab, then any bytes or none.
@@ -67,24 +64,18 @@ fn parse_bytes(src: &[u8], at: usize, strict: bool) -> Head
         return Head::Refused(3);
     }
     match record_kind::parse_kind(&src[1..]) {
-        ParsedKind::Empty => Head::Refused(4),
-        ParsedKind::Invalid => Head::Refused(5),
-        ParsedKind::Is(k) => parse_value(k, src, at, strict),
+        Ok(kind) => parse_value(kind, src, at, strict),
+        Err(KindError::Empty) => Head::Refused(4),
+        Err(KindError::Invalid) => Head::Refused(5),
     }
 }
 
 // Whether a head is that of accepted fields. Such a line has no LF and no CR.
+#[tactic(auto, unfolding(record::specs::Head::has_fields))]
 fn has_fields(head: Head) -> bool
     ensures { result ≡ has_fields head }
 {
-    match head {
-        Head::Refused(_) => false,
-        Head::Header(_, _) => true,
-        Head::ReferenceSequence(_, _, _) => true,
-        Head::ReadGroup(_, _) => true,
-        Head::Program(_, _) => true,
-        Head::Comment(_) => false,
-    }
+    !matches!(head, Head::Refused(_) | Head::Comment(_))
 }
 
 // Reads a line without its ending, which starts at the offset `at`: answers its record, or why it is refused. `strict` forbids repeated tags.

@@ -21,11 +21,5 @@ pub fn mark_of(a: u8, b: u8, exact: bool) -> usize
 pub fn stands_again(src: &[u8], a: u8, b: u8, exact: bool, seen: bool) -> bool
     ensures { result ≡ (seen && (exact || occurs a b src.now)) }
 {
-    if !seen {
-        return false;
-    }
-    if exact {
-        return true;
-    }
-    record_tags::occurs(src, a, b)
+    seen && (exact || record_tags::occurs(src, a, b))
 }

@@ -8,11 +8,11 @@ ghost use Rattle.record_parser.specs.Plain.{TagAt, LengthTold, PlainTold};
 use format::Kind;
 use record::{Head, Stretch};
 
-// How many bytes the name of such a line has, and its length; or it is another line, perhaps a wrong one.
+// How many bytes the name of such a line has, and the length of its sequence.
 #[derive(Clone, Copy)]
-pub enum Plain {
-    Other,
-    Is(usize, u64),
+pub struct Plain {
+    pub name_len: usize,
+    pub length: u64,
 }
 
 // Whether a tab, the tag of `a` and N, and a colon are at the place `at`.
@@ -35,57 +35,45 @@ fn has_tag_at(src: &[u8], at: usize, a: u8) -> bool
     src[at + 3] == b':'
 }
 
-// The length that all of `src` spells: 0 for bytes that are not digits alone, and for a length that is refused. The largest is 2,147,483,647; one digit
+// The length that all of `src` spells: none for bytes that are not digits alone, and for a length that is refused. The largest is 2,147,483,647; one digit
 // more after a number above a tenth of it is always too much.
-fn whole_length(src: &[u8]) -> u64
+fn whole_length(src: &[u8]) -> Option<u64>
     ensures { LengthTold src.now result }
 {
     let mut n: u64 = 0;
-    let mut i: usize = 0;
-    while i < src.len() {
-        let b = src[i];
-        if b < b'0' {
-            return 0;
+    for b in src {
+        if *b < b'0' || b'9' < *b || 214748364 < n {
+            return None;
         }
-        if b'9' < b {
-            return 0;
-        }
-        if 214748364 < n {
-            return 0;
-        }
-        n = n * 10 + (b - b'0') as u64;
-        i += 1;
+        n = n * 10 + (*b - b'0') as u64;
     }
-    if 2147483647 < n {
-        return 0;
+    if n == 0 || 2147483647 < n {
+        return None;
     }
-    n
+    Some(n)
 }
 
-// Whether the fields of a line of SQ are SN and LN alone. No tag is repeated in such a line, so it is accepted under either rule for those.
-pub fn parse_plain(src: &[u8]) -> Plain
+// The parts of a line of SQ whose fields are SN and LN alone; none of any other line, perhaps a wrong one. No tag is repeated in such a line, so it is
+// accepted under either rule for those.
+pub fn parse_plain(src: &[u8]) -> Option<Plain>
     requires { 3 ≤ length src.now }
     ensures { PlainTold src.now result }
 {
     if !field_tag::is_between(b'0', b'9', src[src.len() - 1]) {
-        return Plain::Other; // most lines with another field are told by their last byte
+        return None; // most lines with another field are told by their last byte
     }
     if !has_tag_at(src, 3, b'S') {
-        return Plain::Other;
+        return None;
     }
     let name_len = field::value::value_len(&src[7..]);
     if name_len == 0 {
-        return Plain::Other;
+        return None;
     }
     if !has_tag_at(src, 7 + name_len, b'L') {
-        return Plain::Other;
+        return None;
     }
-    let from = 11 + name_len;
-    let length = whole_length(&src[from..]);
-    if length == 0 {
-        return Plain::Other;
-    }
-    Plain::Is(name_len, length)
+    let length = whole_length(&src[11 + name_len..])?;
+    Some(Plain { name_len, length })
 }
 
 // The fields of a line of SQ.
@@ -94,12 +82,12 @@ pub fn parse_reference(src: &[u8], at: usize, strict: bool) -> Head
     requires src_bound { at + length src.now ≤ 4294967295 }
     ensures { result ≡ head_of (fielded strict ReferenceSequence (at + 3) (drop 3 src.now)) }
 {
-    let Plain::Is(name_len, length) = parse_plain(src) else {
+    let Some(plain) = parse_plain(src) else {
         return super::fields::parse_fields(Kind::ReferenceSequence, src, at, strict);
     };
     let name = Stretch {
         at: at + 7,
-        len: name_len,
+        len: plain.name_len,
     };
-    Head::ReferenceSequence(name, length, 0)
+    Head::ReferenceSequence(name, plain.length, 0)
 }

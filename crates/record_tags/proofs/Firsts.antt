@@ -1,21 +1,20 @@
 -- Settled fields by their first places: walking a line's fields from left to right gives them one by one.
-use Prim.Native.Nat.{ℕ, suc, ◌+◌}
+use Prim.Native.Nat.{ℕ}
 use mathlib.Core.Path.{◌≡◌, refl, sym, ap, ◌∙◌}
-use mathlib.Core.Bool.{Bool, true, false, not, ◌&&◌, ◌||◌, cond}
+use mathlib.Core.Bool.{Bool, true, false, ◌||◌, cond}
 use mathlib.Core.List.{List, [], ◌∷◌, ◌++◌, map, append_assoc, append-nil}
 use mathlib.Core.Option.{Option, none, some}
-use lib.ListN.{length}
 use native.Mathlib.Omega.{arith}
 use lib.Dec.{eqb}
 use borrow.Author.Tests.{eqb-true}
 use Rattle.format.specs.Bytes.{any}
 use Rattle.format.specs.Lines.{Piece}
-use Rattle.format.specs.Fields.{Field, tagged, repeats, later, last_of, without, put, settled_on, settled}
+use Rattle.format.specs.Fields.{Field, tagged, repeats, later, last_of, put, settled_on, settled}
 use Rattle.format.specs.declared.Kind.{Kind}
 use Rattle.format.specs.Keys.{is_key}
 use Rattle.record_tags.specs.Others.{unkeyed, or_last, latest, firsts}
-use Rattle.lists.proofs.Bools.{or_assoc, or_comm, or-true, or-false, eqb-sym, any_append, any_snoc, and_left, and_right, or_left, or_right, split}
-use Rattle.accepted.proofs.Tags.{tagged-sym, tagged-same, any_same, any-put, repeats-put}
+use Rattle.lists.proofs.Bools.{or-false, any_snoc, and_left, and_right, or_left, or_right, split}
+use Rattle.accepted.proofs.Tags.{tagged-sym, any_same, any-put, repeats-put}
 
 -- ---- the last value, one field later
 

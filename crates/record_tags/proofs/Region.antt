@@ -1,21 +1,21 @@
 -- A tag among fields, by the bytes: the laws of `occurs`, and that in a run of fields it finds the fields' tags and nothing else.
-use Prim.Native.Nat.{ℕ, zero, suc, ◌+◌, ◌-◌, ◌≤◌, ◌<◌}
-use mathlib.Core.Path.{◌≡◌, refl, sym, ap, ◌∙◌}
+use Prim.Native.Nat.{ℕ, zero, suc, ◌+◌, ◌≤◌, ◌<◌}
+use mathlib.Core.Path.{◌≡◌, refl, ap, ◌∙◌}
 use mathlib.Core.Bool.{Bool, true, false, ◌&&◌, ◌||◌, cond}
 use mathlib.Core.List.{List, [], ◌∷◌, ◌++◌}
 use native.Mathlib.Omega.{arith}
 use native.Mathlib.Numerals.{add-one, add-two}
-use lib.ListN.{length, take, drop, get_or}
+use lib.ListN.{length, drop, get_or}
 use lib.Seq.{drop-cons}
 use lib.Dec.{eqb}
-use borrow.Author.Tests.{eq-eqb, ne_eqb, eqb-false}
+use borrow.Author.Tests.{ne_eqb}
 use Rattle.format.specs.Bytes.{starts, any}
 use Rattle.format.specs.Fields.{Field, tagged}
 use Rattle.format.specs.Tidy.{field_text, fields_text}
 use Rattle.byte_slices.specs.Upto.{upto}
 use Rattle.byte_slices.specs.Stands.{Each}
 use Rattle.record_tags.specs.Occurs.{occurs}
-use Rattle.lists.proofs.Bools.{or-true, or-false, eqb-sym}
+use Rattle.lists.proofs.Bools.{or-true, eqb-sym}
 
 pub occurs-short : (a b : ℕ) (s : List ℕ) → length s ≤ 2 → occurs a b s ≡ false
 unfolding occurs

@@ -6,11 +6,12 @@ use mathlib.Core.List.{List, [], ◌∷◌, ◌++◌, map}
 use native.Mathlib.Omega.{arith}
 use lib.ListN.{length, drop}
 use lib.Dec.{eqb}
+use Rattle.std.specs.Prelude.{Ok, Err}
 use Rattle.format.specs.Fields.{Field}
 use Rattle.format.specs.Records.{Record, header, reference, group, program, comment, code, others}
 use Rattle.format.specs.Reading.{of_kind}
 use Rattle.format.specs.Calls.{Answer, refused, yes, then, fitting, fresh}
-use Rattle.format.specs.declared.LineNo.{LineNo}
+use Rattle.format.specs.declared.Refusal.{Refusal}
 use Rattle.byte_slices.specs.Over.{over}
 use Rattle.byte_slices.specs.Stands.{Each}
 use Rattle.accepted.specs.Read.{records_of}
@@ -19,7 +20,6 @@ use Rattle.accepted.proofs.Text.{text-sound, text-count, text-fits}
 use Rattle.catalogue_entries.specs.declared.Entry.{Entry}
 use Rattle.catalogue_entries.specs.Entries.{piece_at, head_entry, field_entry, entries_on, entries_of, entries_in, counted}
 use Rattle.catalogue_lookup.proofs.Kept.{text-entries, text-counted}
-use Rattle.read.specs.declared.CountAnswer.TheVariants.{Refused, Count}
 use Rattle.read.specs.Answers.{output_of}
 use Rattle.read.proofs.Fresh.{Current, goes_on, stops}
 use Rattle.read.proofs.AnswerCases.{too_short, fits}
@@ -125,13 +125,13 @@ module _ (t c : List ℕ) (own : Current t c) where
 -- ---- what an answer says, and leaves in the table
 
 module _ (b : Answer (List ℕ × ℕ)) (table : List ℕ) where
-  pub told-refusal : (n : ℕ) (l : LineNo) → b ≡ refused n l.0 → (Refused n l ≡ row_count_of b) × (table ≡ output_of (numbers_of b) table)
+  pub told-refusal : (r : Refusal) → b ≡ refused r.number r.line.0 → (Err r ≡ row_count_of b) × (table ≡ output_of (numbers_of b) table)
   unfolding row_count_of numbers_of output_of
-  told-refusal n l e = (sym (ap row_count_of e), sym (ap (λ a. output_of (numbers_of a) table) e))
+  told-refusal r e = (sym (ap row_count_of e), sym (ap (λ a. output_of (numbers_of a) table) e))
 
   pub told-answer : (xs : List ℕ) (m : ℕ) → b ≡ yes (xs, m) → (count : ℕ) → count ≡ m → (after : List ℕ) → after ≡ over table 0 xs
-      → (Count count ≡ row_count_of b) × (after ≡ output_of (numbers_of b) table)
+      → (Ok count ≡ row_count_of b) × (after ≡ output_of (numbers_of b) table)
   unfolding row_count_of numbers_of output_of over
   told-answer xs m e count n after o =
       let z : 0 + length xs ≡ length xs = omega arith in
-      (ap Count n ∙ sym (ap row_count_of e), o ∙ ap (λ k. xs ++ drop k table) z ∙ sym (ap (λ a. output_of (numbers_of a) table) e))
+      (ap Ok n ∙ sym (ap row_count_of e), o ∙ ap (λ k. xs ++ drop k table) z ∙ sym (ap (λ a. output_of (numbers_of a) table) e))

@@ -10,8 +10,8 @@ ghost use Rattle.references.specs.Answers.{row_count_of, numbers_of};
 ghost use Rattle.references.specs.Rows.{rows_in, RowsFit};
 
 use catalogue_entries::{Entry, Place};
-use format::LineNo;
-use read::{Checked, CountAnswer};
+use format::Refusal;
+use read::CountAnswer;
 
 // Writes the row of one SQ at `at`.
 fn put_row(table: &mut [u32], at: usize, name: Place, ln: u32)
@@ -50,15 +50,11 @@ pub fn references(text: &[u8], catalogue: &[u8], table: &mut [u32]) -> CountAnsw
     ensures wrote { table.new ≡ output_of
         (numbers_of (referencing text.now catalogue.now (length table.old))) table.old }
 {
-    match read::check(text, catalogue) {
-        Checked::Refused(n, line) => CountAnswer::Refused(n, line),
-        Checked::Fresh => {
-            let count = name_entries::count(catalogue);
-            if table.len() < 3 * count {
-                return CountAnswer::Refused(20, LineNo(0));
-            }
-            put_rows(catalogue, table);
-            CountAnswer::Count(count)
-        }
+    read::check(text, catalogue)?;
+    let count = name_entries::count(catalogue);
+    if table.len() < 3 * count {
+        return Err(Refusal::of_text(20));
     }
+    put_rows(catalogue, table);
+    Ok(count)
 }

@@ -53,12 +53,10 @@ pub fn is_hex(s: &[u8], bytes: &[u8]) -> bool
     if s.len() / 2 != bytes.len() {
         return false;
     }
-    let mut i: usize = 0;
-    while i < bytes.len() {
-        if !is_pair(s, 2 * i, bytes[i]) {
+    for (i, b) in bytes.iter().enumerate() {
+        if !is_pair(s, 2 * i, *b) {
             return false;
         }
-        i += 1;
     }
     true
 }
@@ -68,9 +66,7 @@ fn is_wide(s: &[u8], at: usize, width: usize, n: u32) -> bool
     requires { at + width ≤ length s.now }
 {
     let mut rest = n;
-    let mut i = width;
-    while 0 < i {
-        i -= 1;
+    for i in (0..width).rev() {
         if s[at + i] != letter((rest % 16) as u8) {
             return false;
         }
@@ -85,16 +81,11 @@ fn is_ordinals(s: &[u8], list: &[u32], width: usize) -> bool {
         return byte_slices::same(s, b"-");
     }
     let mut at: usize = 0;
-    let mut i: usize = 0;
-    while i < list.len() {
-        if s.len() - at < width {
-            return false;
-        }
-        if !is_wide(s, at, width, list[i]) {
+    for n in list {
+        if s.len() - at < width || !is_wide(s, at, width, *n) {
             return false;
         }
         at += width;
-        i += 1;
     }
     at == s.len()
 }

@@ -4,9 +4,6 @@
 
 ghost use Rattle.std.specs.Prelude.{◌≡◌, ◌≤◌, length, take};
 
-use calls::{KeyAnswer, LengthAnswer, LineAnswer};
-use read::CountAnswer;
-
 // Puts the catalogue that a word names to the front of `kept` and answers its length: `=` is the text's own.
 pub fn keep(word: &[u8], text: &[u8], kept: &mut [u8]) -> usize
     ensures { (result ≤ length kept.new) × (result ≡ length (take result kept.new)) × (length kept.new ≡ length kept.old) }
@@ -15,8 +12,8 @@ pub fn keep(word: &[u8], text: &[u8], kept: &mut [u8]) -> usize
         return replay_cases::decode(word, kept);
     }
     match read::read(text, kept) {
-        CountAnswer::Refused(_, _) => 0,
-        CountAnswer::Count(n) => replay_cases::least(n, kept.len()),
+        Err(_) => 0,
+        Ok(n) => replay_cases::least(n, kept.len()),
     }
 }
 
@@ -27,8 +24,8 @@ pub fn is_count(line: &[u8], text: &[u8], kept: &[u8]) -> bool {
         kept,
         replay_answers::byte_of(replay_cases::word(line, 3)),
     ) {
-        CountAnswer::Refused(n, no) => replay_answers::is_refusal(line, 4, n, no),
-        CountAnswer::Count(n) => replay_answers::is_ok(line, 4, 1)
+        Err(refusal) => replay_answers::is_refusal(line, 4, refusal.number, refusal.line),
+        Ok(n) => replay_answers::is_ok(line, 4, 1)
             && replay_answers::is_number(replay_cases::word(line, 5), n as u64),
     }
 }
@@ -42,11 +39,11 @@ pub fn is_key(line: &[u8], text: &[u8], kept: &[u8]) -> bool {
         kind,
         replay_answers::ordinal_of(replay_cases::word(line, 4)),
     ) {
-        KeyAnswer::Refused(n, no) => replay_answers::is_refusal(line, 5, n, no),
-        KeyAnswer::At(at, len) => {
+        Err(refusal) => replay_answers::is_refusal(line, 5, refusal.number, refusal.line),
+        Ok(place) => {
             replay_answers::is_ok(line, 5, 2)
-                && replay_answers::is_number(replay_cases::word(line, 6), at as u64)
-                && replay_answers::is_number(replay_cases::word(line, 7), len as u64)
+                && replay_answers::is_number(replay_cases::word(line, 6), place.at as u64)
+                && replay_answers::is_number(replay_cases::word(line, 7), place.len as u64)
         }
     }
 }
@@ -58,8 +55,8 @@ pub fn is_length(line: &[u8], text: &[u8], kept: &[u8]) -> bool {
         kept,
         replay_answers::ordinal_of(replay_cases::word(line, 3)),
     ) {
-        LengthAnswer::Refused(n, no) => replay_answers::is_refusal(line, 4, n, no),
-        LengthAnswer::Is(n) => replay_answers::is_ok(line, 4, 1)
+        Err(refusal) => replay_answers::is_refusal(line, 4, refusal.number, refusal.line),
+        Ok(n) => replay_answers::is_ok(line, 4, 1)
             && replay_answers::is_number(replay_cases::word(line, 5), n),
     }
 }
@@ -73,8 +70,8 @@ pub fn is_line(line: &[u8], text: &[u8], kept: &[u8]) -> bool {
         kind,
         replay_answers::ordinal_of(replay_cases::word(line, 4)),
     ) {
-        LineAnswer::Refused(n, no) => replay_answers::is_refusal(line, 5, n, no),
-        LineAnswer::Is(no) => replay_answers::is_ok(line, 5, 1)
+        Err(refusal) => replay_answers::is_refusal(line, 5, refusal.number, refusal.line),
+        Ok(no) => replay_answers::is_ok(line, 5, 1)
             && replay_answers::is_number(replay_cases::word(line, 6), no.0 as u64),
     }
 }

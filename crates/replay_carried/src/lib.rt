@@ -26,15 +26,15 @@ pub fn is_carried(line: &[u8], text: &[u8], out: &mut [u8], table: &mut [u32]) -
     let room = replay_answers::byte_room(replay_cases::word(line, 2), out);
     let rows = replay_answers::ordinal_room(replay_cases::word(line, 3), table);
     match carried(text, &mut out[..room], &mut table[..rows]) {
-        Carried::Refused(n, no) => {
-            replay_answers::is_refusal(line, 4, n, no)
+        Err(refusal) => {
+            replay_answers::is_refusal(line, 4, refusal.number, refusal.line)
                 && replay_cases::is_untouched(out)
                 && replay_cases::is_unlisted(table)
         }
-        Carried::Written(n, skipped) => {
+        Ok(written) => {
             replay_answers::is_ok(line, 4, 2)
-                && replay_answers::is_text(replay_cases::word(line, 5), out, n)
-                && is_table(replay_cases::word(line, 6), table, skipped)
+                && replay_answers::is_text(replay_cases::word(line, 5), out, written.size)
+                && is_table(replay_cases::word(line, 6), table, written.skipped)
         }
     }
 }

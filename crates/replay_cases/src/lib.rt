@@ -31,19 +31,11 @@ pub fn least(a: usize, b: usize) -> usize
 fn digit(b: u8) -> u8
     ensures { (result < 16) × (result ≡ digit_value b) }
 {
-    if b < b'0' {
-        return 0;
+    match b {
+        b'0'..=b'9' => b - b'0',
+        b'a'..=b'f' => b - b'a' + 10,
+        _ => 0,
     }
-    if b <= b'9' {
-        return b - b'0';
-    }
-    if b < b'a' {
-        return 0;
-    }
-    if b <= b'f' {
-        return b - b'a' + 10;
-    }
-    0
 }
 
 // The number that `s` spells, taken from its last ten digits.
@@ -51,10 +43,8 @@ pub fn number(s: &[u8]) -> usize
     ensures { (result < 10000000016) × (result ≡ number_from 0 s.now) }
 {
     let mut n: usize = 0;
-    let mut i: usize = 0;
-    while i < s.len() {
-        n = n % 1000000000 * 10 + digit(s[i]) as usize;
-        i += 1;
+    for b in s {
+        n = n % 1000000000 * 10 + digit(*b) as usize;
     }
     n
 }
@@ -68,10 +58,8 @@ pub fn decode(hex: &[u8], text: &mut [u8]) -> usize
         (take (decoded_count hex.now text.old) (decoded hex.now)) }
 {
     let n = least(hex.len() / 2, text.len());
-    let mut i: usize = 0;
-    while i < n {
+    for i in 0..n {
         text[i] = digit(hex[2 * i]) * 16 + digit(hex[2 * i + 1]);
-        i += 1;
     }
     n
 }
@@ -80,28 +68,14 @@ pub fn decode(hex: &[u8], text: &mut [u8]) -> usize
 pub fn is_untouched(kept: &[u8]) -> bool
     ensures { result ≡ all (eqb 165) kept.now }
 {
-    let mut i: usize = 0;
-    while i < kept.len() {
-        if FILLER != kept[i] {
-            return false;
-        }
-        i += 1;
-    }
-    true
+    kept.iter().all(|b| *b == FILLER)
 }
 
 // Whether no ordinal has been written over.
 pub fn is_unlisted(list: &[u32]) -> bool
     ensures { result ≡ all (eqb 2779096485) list.now }
 {
-    let mut i: usize = 0;
-    while i < list.len() {
-        if NO_ORDINAL != list[i] {
-            return false;
-        }
-        i += 1;
-    }
-    true
+    list.iter().all(|k| *k == NO_ORDINAL)
 }
 
 // Where the piece of `s` from `at` on ends: at the next `d`, or at the end.
@@ -117,14 +91,12 @@ fn word_start(line: &[u8], k: usize) -> usize
     ensures { (result ≤ length line.now) × (drop result line.now ≡ from_word k line.now) }
 {
     let mut at: usize = 0;
-    let mut left = k;
-    while 0 < left {
+    for _ in 0..k {
         at = until(line, at, b' ');
         if at == line.len() {
             return at;
         }
         at += 1;
-        left -= 1;
     }
     at
 }

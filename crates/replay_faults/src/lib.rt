@@ -16,10 +16,11 @@ fn found(text: &[u8], table: &mut [u32]) -> CountAnswer
 pub fn is_faults(line: &[u8], text: &[u8], table: &mut [u32]) -> bool {
     let room = replay_answers::ordinal_room(replay_cases::word(line, 2), table);
     match found(text, &mut table[..room]) {
-        CountAnswer::Refused(n, no) => {
-            replay_answers::is_refusal(line, 3, n, no) && replay_cases::is_unlisted(table)
+        Err(refusal) => {
+            replay_answers::is_refusal(line, 3, refusal.number, refusal.line)
+                && replay_cases::is_unlisted(table)
         }
-        CountAnswer::Count(lines) => {
+        Ok(lines) => {
             if format::LONGEST < lines {
                 return false;
             }

@@ -1,16 +1,13 @@
 // Reading, and the calls on program graphs: whether each answers as a line of stored answers says (the crate `replay` describes the lines).
 #![tactic(auto)]
 
-use programs::LeavesAnswer;
-use read::{Checked, CountAnswer};
-
 // Whether the roots are the line's, with an output of the size that it says.
 pub fn is_roots(line: &[u8], text: &[u8], kept: &[u8], out: &mut [u32]) -> bool {
     let room = replay_answers::ordinal_room(replay_cases::word(line, 3), out);
     match programs::roots(text, kept, &mut out[..room]) {
-        CountAnswer::Refused(n, no) => replay_answers::is_refusal(line, 4, n, no)
+        Err(refusal) => replay_answers::is_refusal(line, 4, refusal.number, refusal.line)
             && replay_cases::is_unlisted(out),
-        CountAnswer::Count(n) => replay_answers::is_ok(line, 4, 1)
+        Ok(n) => replay_answers::is_ok(line, 4, 1)
             && replay_answers::is_list(replay_cases::word(line, 5), out, n, 4),
     }
 }
@@ -19,12 +16,12 @@ pub fn is_roots(line: &[u8], text: &[u8], kept: &[u8], out: &mut [u32]) -> bool 
 pub fn is_leaves(line: &[u8], text: &[u8], kept: &[u8], out: &mut [u32]) -> bool {
     let room = replay_answers::ordinal_room(replay_cases::word(line, 3), out);
     match programs::leaves(text, kept, &mut out[..room]) {
-        LeavesAnswer::Refused(n, no) => replay_answers::is_refusal(line, 4, n, no)
+        Err(refusal) => replay_answers::is_refusal(line, 4, refusal.number, refusal.line)
             && replay_cases::is_unlisted(out),
-        LeavesAnswer::Counted(n, hops) => {
+        Ok(found) => {
             replay_answers::is_ok(line, 4, 2)
-                && replay_answers::is_list(replay_cases::word(line, 5), out, n, 4)
-                && replay_answers::is_number(replay_cases::word(line, 6), hops as u64)
+                && replay_answers::is_list(replay_cases::word(line, 5), out, found.leaves, 4)
+                && replay_answers::is_number(replay_cases::word(line, 6), found.hops as u64)
         }
     }
 }
@@ -32,21 +29,21 @@ pub fn is_leaves(line: &[u8], text: &[u8], kept: &[u8], out: &mut [u32]) -> bool
 // Whether the roots are those of noodles-sam.
 fn are_roots(word: &[u8], text: &[u8], kept: &[u8], out: &mut [u32]) -> bool {
     match programs::roots(text, kept, out) {
-        CountAnswer::Refused(_, _) => false,
-        CountAnswer::Count(n) => replay_answers::is_list(word, out, n, 4),
+        Err(_) => false,
+        Ok(n) => replay_answers::is_list(word, out, n, 4),
     }
 }
 
 // Whether the leaves are those of noodles-sam, or it found a cycle and the answer is 23.
 fn are_leaves(word: &[u8], text: &[u8], kept: &[u8], out: &mut [u32]) -> bool {
     match programs::leaves(text, kept, out) {
-        LeavesAnswer::Refused(n, no) => {
+        Err(refusal) => {
             byte_slices::same(word, b"cycle")
-                && n == 23
-                && no.0 == 0
+                && refusal.number == 23
+                && refusal.line.0 == 0
                 && replay_cases::is_unlisted(out)
         }
-        LeavesAnswer::Counted(n, _) => replay_answers::is_list(word, out, n, 4),
+        Ok(found) => replay_answers::is_list(word, out, found.leaves, 4),
     }
 }
 
@@ -66,24 +63,24 @@ fn is_graph(line: &[u8], text: &[u8], kept: &[u8], n: usize) -> bool {
 // Whether a text is read, and its roots and leaves are the line's.
 pub fn is_read(line: &[u8], text: &[u8], kept: &mut [u8]) -> bool {
     match read::read(text, kept) {
-        CountAnswer::Refused(_, _) => false,
-        CountAnswer::Count(n) => is_graph(line, text, kept, n),
+        Err(_) => false,
+        Ok(n) => is_graph(line, text, kept, n),
     }
 }
 
 // Whether the check refuses `kept` with 21.
 fn is_stale(text: &[u8], kept: &[u8]) -> bool {
     match read::check(text, kept) {
-        Checked::Fresh => false,
-        Checked::Refused(n, _) => n == 21,
+        Ok(()) => false,
+        Err(refusal) => refusal.number == 21,
     }
 }
 
 // Whether the check takes `kept`, and refuses it with another last byte. An empty catalogue has no last byte.
 fn is_fresh(text: &[u8], kept: &mut [u8]) -> bool {
     match read::check(text, kept) {
-        Checked::Fresh => {}
-        Checked::Refused(_, _) => return false,
+        Ok(()) => {}
+        Err(_) => return false,
     }
     if kept.len() == 0 {
         return true;
@@ -105,9 +102,9 @@ fn is_own(word: &[u8], text: &[u8], kept: &mut [u8], n: usize) -> bool {
 pub fn is_reading(line: &[u8], text: &[u8], kept: &mut [u8]) -> bool {
     let room = replay_answers::byte_room(replay_cases::word(line, 2), kept);
     match read::read(text, &mut kept[..room]) {
-        CountAnswer::Refused(n, no) => replay_answers::is_refusal(line, 3, n, no)
+        Err(refusal) => replay_answers::is_refusal(line, 3, refusal.number, refusal.line)
             && replay_cases::is_untouched(kept),
-        CountAnswer::Count(n) => replay_answers::is_ok(line, 3, 1)
+        Ok(n) => replay_answers::is_ok(line, 3, 1)
             && is_own(replay_cases::word(line, 4), text, kept, n),
     }
 }
@@ -115,8 +112,8 @@ pub fn is_reading(line: &[u8], text: &[u8], kept: &mut [u8]) -> bool {
 // Whether reading refuses a text as noodles-sam does, and writes nothing.
 pub fn is_read_refused(line: &[u8], text: &[u8], out: &mut [u8]) -> bool {
     match read::read(text, out) {
-        CountAnswer::Refused(n, no) => replay_answers::is_refusal(line, 1, n, no)
+        Err(refusal) => replay_answers::is_refusal(line, 1, refusal.number, refusal.line)
             && replay_cases::is_untouched(out),
-        CountAnswer::Count(_) => false,
+        Ok(_) => false,
     }
 }

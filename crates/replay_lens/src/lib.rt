@@ -2,7 +2,7 @@
 // describes the lines).
 #![tactic(auto)]
 
-use binary_len::{BinaryLen, Step};
+use binary_len::{Len, Step};
 use format::LineNo;
 
 // Whether the text header at the front of a line's bytes is as long as the line says.
@@ -24,33 +24,30 @@ fn is_len(line: &[u8], what: &[u8], n: usize) -> bool {
 }
 
 // Whether a line gives this answer for a binary header.
-fn is_answer(line: &[u8], len: BinaryLen) -> bool {
+fn is_answer(line: &[u8], len: Result<Len, u8>) -> bool {
     match len {
-        BinaryLen::Refused(n) => replay_answers::is_refusal(line, 2, n, LineNo(0)),
-        BinaryLen::Whole(n) => is_len(line, b"whole", n),
-        BinaryLen::More(n) => is_len(line, b"more", n),
+        Err(n) => replay_answers::is_refusal(line, 2, n, LineNo(0)),
+        Ok(Len::Whole(n)) => is_len(line, b"whole", n),
+        Ok(Len::More(n)) => is_len(line, b"more", n),
     }
 }
 
-// The answer for some bytes if each call is lent as many bytes as the call before it asked for, with the cursor; `Refused(0)` if a call asks for no
+// The answer for some bytes if each call is lent as many bytes as the call before it asked for, with the cursor; the refusal 0 if a call asks for no
 // more bytes than it was lent.
-fn answer_by_fronts(bytes: &[u8]) -> BinaryLen {
+fn answer_by_fronts(bytes: &[u8]) -> Result<Len, u8> {
     let mut from = binary_len::first_cursor();
     let mut lent: usize = 0;
     while lent < bytes.len() {
-        match binary_len::binary_len_from(&bytes[..lent], from) {
+        match binary_len::binary_len_from(&bytes[..lent], from)? {
             Step::Whole(n) => {
-                return BinaryLen::Whole(n);
+                return Ok(Len::Whole(n));
             }
             Step::More(n, next) => {
                 if n <= lent {
-                    return BinaryLen::Refused(0);
+                    return Err(0);
                 }
                 from = next;
                 lent = replay_cases::least(n, bytes.len());
-            }
-            Step::Refused(n) => {
-                return BinaryLen::Refused(n);
             }
         }
     }

@@ -3,8 +3,8 @@
 
 ghost use Rattle.std.specs.Prelude.{◌≡◌, ◌≤◌, ◌<◌, ◌+◌, length, take};
 
-use format::LineNo;
-use merge_judge::{Verdict, Which};
+use format::Refusal;
+use merge_judge::{MergeRefusal, Verdict, Which};
 
 // The number in two bytes, the high one first.
 fn pair(high: u8, low: u8) -> u32
@@ -27,19 +27,17 @@ fn put_list(word: &[u8], list: &mut [u32]) -> usize
     let mut bytes = io::large_buffer();
     let n = replay_cases::decode(word, &mut bytes) / 4;
     let count = replay_cases::least(n, list.len());
-    let mut i: usize = 0;
-    while i < count {
+    for i in 0..count {
         list[i] = ordinal(&bytes, 4 * i);
-        i += 1;
     }
     count
 }
 
 // Whether the answer of a line is a refusal with this number, line and text.
-fn is_refusal(line: &[u8], n: u8, no: LineNo, about: &[u8]) -> bool {
+fn is_refusal(line: &[u8], refusal: Refusal, about: &[u8]) -> bool {
     byte_slices::same(replay_cases::word(line, 6), b"refused")
-        && replay_answers::is_number(replay_cases::word(line, 7), n as u64)
-        && replay_answers::is_number(replay_cases::word(line, 8), no.0 as u64)
+        && replay_answers::is_number(replay_cases::word(line, 7), refusal.number as u64)
+        && replay_answers::is_number(replay_cases::word(line, 8), refusal.line.0 as u64)
         && byte_slices::same(replay_cases::word(line, 9), about)
         && replay_cases::word(line, 10).len() == 0
 }
@@ -47,13 +45,13 @@ fn is_refusal(line: &[u8], n: u8, no: LineNo, about: &[u8]) -> bool {
 // Whether the verdict is the line's.
 fn is_verdict(line: &[u8], verdict: Verdict) -> bool {
     match verdict {
-        Verdict::Accepted => replay_answers::is_ok(line, 6, 0),
-        Verdict::Unfit(which, n, no) => match which {
-            Which::A => is_refusal(line, n, no, b"A"),
-            Which::B => is_refusal(line, n, no, b"B"),
-            Which::Merged => is_refusal(line, n, no, b"M"),
+        Ok(()) => replay_answers::is_ok(line, 6, 0),
+        Err(MergeRefusal::Unfit(which, refusal)) => match which {
+            Which::A => is_refusal(line, refusal, b"A"),
+            Which::B => is_refusal(line, refusal, b"B"),
+            Which::Merged => is_refusal(line, refusal, b"M"),
         },
-        Verdict::Unmerged(n) => is_refusal(line, n, LineNo(0), b"-"),
+        Err(MergeRefusal::Unmerged(n)) => is_refusal(line, Refusal::of_text(n), b"-"),
     }
 }
 

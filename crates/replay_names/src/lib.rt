@@ -1,8 +1,6 @@
 // Many names at once: whether the call answers as a line of stored answers says (the crate `replay` describes the lines).
 #![tactic(auto)]
 
-use names::NamesAnswer;
-
 // Whether as many slots were looked at as a word says, if it is a number.
 fn is_looks(word: &[u8], looks: u64) -> bool {
     byte_slices::same(word, b"-") || replay_answers::is_number(word, looks)
@@ -16,15 +14,15 @@ pub fn is_names(line: &[u8], text: &[u8], kept: &[u8], work: &mut [u32], out: &m
     let slots = replay_answers::ordinal_room(replay_cases::word(line, 4), work);
     let room = replay_answers::ordinal_room(replay_cases::word(line, 5), out);
     match names::names(text, kept, &list[..n], &mut work[..slots], &mut out[..room]) {
-        NamesAnswer::Refused(n, no) => {
-            replay_answers::is_refusal(line, 6, n, no)
+        Err(refusal) => {
+            replay_answers::is_refusal(line, 6, refusal.number, refusal.line)
                 && replay_cases::is_unlisted(work)
                 && replay_cases::is_unlisted(out)
         }
-        NamesAnswer::Counted(n, looks) => {
+        Ok(counted) => {
             replay_answers::is_ok(line, 6, 3)
-                && is_looks(replay_cases::word(line, 9), looks)
-                && replay_answers::is_list(replay_cases::word(line, 7), out, n, 8)
+                && is_looks(replay_cases::word(line, 9), counted.looks)
+                && replay_answers::is_list(replay_cases::word(line, 7), out, counted.names, 8)
                 && replay_answers::is_list(
                     replay_cases::word(line, 8),
                     work,

@@ -3,8 +3,6 @@
 
 ghost use Rattle.std.specs.Prelude.{◌≡◌, ◌≤◌, ◌+◌, length, take};
 
-use read::CountAnswer;
-
 // The ordinal that the eight hex digits at `at` spell.
 fn ordinal_at(word: &[u8], at: usize) -> u32
     requires { at + 8 ≤ length word.now }
@@ -19,10 +17,8 @@ fn listed(word: &[u8], list: &mut [u32]) -> usize
     ensures { (result ≤ length list.new) × (result ≡ length (take result list.new)) }
 {
     let n = replay_cases::least(word.len() / 8, list.len());
-    let mut i: usize = 0;
-    while i < n {
+    for i in 0..n {
         list[i] = ordinal_at(word, 8 * i);
-        i += 1;
     }
     n
 }
@@ -33,9 +29,9 @@ pub fn is_pruned(line: &[u8], text: &[u8], kept: &[u8], out: &mut [u8]) -> bool 
     let u = listed(replay_cases::word(line, 4), &mut used);
     let room = replay_answers::byte_room(replay_cases::word(line, 3), out);
     match prune::prune(text, kept, &used[..u], &mut out[..room]) {
-        CountAnswer::Refused(n, no) => replay_answers::is_refusal(line, 5, n, no)
+        Err(refusal) => replay_answers::is_refusal(line, 5, refusal.number, refusal.line)
             && replay_cases::is_untouched(out),
-        CountAnswer::Count(n) => replay_answers::is_ok(line, 5, 1)
+        Ok(n) => replay_answers::is_ok(line, 5, 1)
             && replay_answers::is_text(replay_cases::word(line, 6), out, n),
     }
 }

@@ -3,15 +3,13 @@
 
 ghost use Rattle.std.specs.Prelude.{◌≡◌, length};
 
-use read::{Checked, CountAnswer};
-
 // Tidies a text: answers how many bytes were written, or 0 for a refusal.
 fn tidied(text: &[u8], out: &mut [u8]) -> usize
     ensures { length out.new ≡ length out.old }
 {
     match tidy::tidy(text, out) {
-        CountAnswer::Refused(_, _) => 0,
-        CountAnswer::Count(n) => n,
+        Err(_) => 0,
+        Ok(n) => n,
     }
 }
 
@@ -49,12 +47,12 @@ fn is_seal(line: &[u8], text: &[u8], work: &mut [u8]) -> bool {
     let room = replay_answers::byte_room(replay_cases::word(line, 2), work);
     let mut seal: [u8; 32] = [replay_cases::FILLER; 32];
     match seal::seal(text, &mut work[..room], &mut seal) {
-        CountAnswer::Refused(n, no) => {
-            replay_answers::is_refusal(line, 3, n, no)
+        Err(refusal) => {
+            replay_answers::is_refusal(line, 3, refusal.number, refusal.line)
                 && is_unsealed(&seal)
                 && replay_cases::is_untouched(work)
         }
-        CountAnswer::Count(n) => {
+        Ok(n) => {
             replay_answers::is_ok(line, 3, 1)
                 && is_digest(replay_cases::word(line, 4), &seal)
                 && is_tidied(text, work, replay_cases::word(line, 2))
@@ -83,9 +81,9 @@ fn is_left(line: &[u8], text: &[u8], work: &[u8], number: u8) -> bool {
 fn is_check(line: &[u8], text: &[u8], kept: &[u8], seal: &[u8; 32], work: &mut [u8]) -> bool {
     let room = replay_answers::byte_room(replay_cases::word(line, 3), work);
     match seal::check_sealed(text, kept, seal, &mut work[..room]) {
-        Checked::Refused(n, no) => replay_answers::is_refusal(line, 5, n, no)
-            && is_left(line, text, work, n),
-        Checked::Fresh => replay_answers::is_ok(line, 5, 0) && is_left(line, text, work, 33),
+        Err(refusal) => replay_answers::is_refusal(line, 5, refusal.number, refusal.line)
+            && is_left(line, text, work, refusal.number),
+        Ok(()) => replay_answers::is_ok(line, 5, 0) && is_left(line, text, work, 33),
     }
 }
 

@@ -5,7 +5,6 @@
 
 ghost use Rattle.std.specs.Prelude.{◌≤◌};
 
-use programs::LeavesAnswer;
 use programs_by_table::TablePlan;
 
 // The numbers of a table, two per record, as they are after a call that leaves `count` records in it.
@@ -13,11 +12,9 @@ fn rows(parents: [u32; 1024], depths: [u32; 1024], count: usize) -> [u32; 2048]
     requires { count ≤ 1024 }
 {
     let mut table = replay_answers::ordinals();
-    let mut i: usize = 0;
-    while i < count {
+    for i in 0..count {
         table[2 * i] = parents[i];
         table[2 * i + 1] = depths[i];
-        i += 1;
     }
     table
 }
@@ -33,15 +30,15 @@ fn is_plan(line: &[u8], plan: TablePlan, out: &[u32]) -> bool
     let table = rows(parents, depths, count);
     let answer = plan.answer;
     match answer {
-        LeavesAnswer::Refused(n, no) => {
-            replay_answers::is_refusal(line, 5, n, no)
+        Err(refusal) => {
+            replay_answers::is_refusal(line, 5, refusal.number, refusal.line)
                 && replay_cases::is_unlisted(out)
                 && replay_cases::is_unlisted(&table)
         }
-        LeavesAnswer::Counted(n, hops) => {
+        Ok(found) => {
             replay_answers::is_ok(line, 5, 3)
-                && replay_answers::is_list(replay_cases::word(line, 6), out, n, 4)
-                && replay_answers::is_number(replay_cases::word(line, 7), hops as u64)
+                && replay_answers::is_list(replay_cases::word(line, 6), out, found.leaves, 4)
+                && replay_answers::is_number(replay_cases::word(line, 7), found.hops as u64)
                 && replay_answers::is_list(replay_cases::word(line, 8), &table, 2 * count, 8)
         }
     }

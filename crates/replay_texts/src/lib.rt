@@ -13,9 +13,9 @@ pub fn is_added(line: &[u8], text: &[u8], kept: &[u8], out: &mut [u8]) -> bool {
     let f = replay_cases::decode(replay_cases::word(line, 5), &mut fields);
     let room = replay_answers::byte_room(replay_cases::word(line, 3), out);
     match add::add(text, kept, &prefix[..p], &fields[..f], &mut out[..room]) {
-        CountAnswer::Refused(n, no) => replay_answers::is_refusal(line, 6, n, no)
+        Err(refusal) => replay_answers::is_refusal(line, 6, refusal.number, refusal.line)
             && replay_cases::is_untouched(out),
-        CountAnswer::Count(n) => replay_answers::is_ok(line, 6, 1)
+        Ok(n) => replay_answers::is_ok(line, 6, 1)
             && replay_answers::is_text(replay_cases::word(line, 7), out, n),
     }
 }
@@ -52,9 +52,9 @@ fn read_in(bytes: &[u8], out: &mut [u8]) -> CountAnswer
 // Whether the answer and what it left in the output are the line's.
 fn is_answered(line: &[u8], answer: CountAnswer, out: &[u8]) -> bool {
     match answer {
-        CountAnswer::Refused(n, no) => replay_answers::is_refusal(line, 3, n, no)
+        Err(refusal) => replay_answers::is_refusal(line, 3, refusal.number, refusal.line)
             && replay_cases::is_untouched(out),
-        CountAnswer::Count(n) => replay_answers::is_ok(line, 3, 1)
+        Ok(n) => replay_answers::is_ok(line, 3, 1)
             && replay_answers::is_text(replay_cases::word(line, 4), out, n),
     }
 }
@@ -83,28 +83,28 @@ pub fn is_binary_in(line: &[u8], bytes: &[u8], out: &mut [u8]) -> bool {
 // Whether tidying refuses a text as reading does, and writes nothing.
 pub fn is_tidy_refused(line: &[u8], text: &[u8], out: &mut [u8]) -> bool {
     match tidied(text, out) {
-        CountAnswer::Refused(n, no) => replay_answers::is_refusal(line, 1, n, no)
+        Err(refusal) => replay_answers::is_refusal(line, 1, refusal.number, refusal.line)
             && replay_cases::is_untouched(out),
-        CountAnswer::Count(_) => false,
+        Ok(_) => false,
     }
 }
 
 // Whether the tidy text is that of noodles-sam.
 pub fn is_tidy(word: &[u8], text: &[u8], out: &mut [u8]) -> bool {
     match tidied(text, out) {
-        CountAnswer::Refused(_, _) => false,
-        CountAnswer::Count(n) => replay_answers::is_text(word, out, n),
+        Err(_) => false,
+        Ok(n) => replay_answers::is_text(word, out, n),
     }
 }
 
 // Whether tidying refuses a name, on this line, and writes nothing.
 pub fn is_unwritable(word: &[u8], text: &[u8], out: &mut [u8]) -> bool {
     match tidied(text, out) {
-        CountAnswer::Refused(n, no) => {
-            n == 24
-                && replay_answers::is_number(word, no.0 as u64)
+        Err(refusal) => {
+            refusal.number == 24
+                && replay_answers::is_number(word, refusal.line.0 as u64)
                 && replay_cases::is_untouched(out)
         }
-        CountAnswer::Count(_) => false,
+        Ok(_) => false,
     }
 }

@@ -10,14 +10,7 @@ use read::CountAnswer;
 fn is_cleared(list: &[u32]) -> bool
     ensures { result ≡ all (eqb 0) list.now }
 {
-    let mut i: usize = 0;
-    while i < list.len() {
-        if 0 != list[i] {
-            return false;
-        }
-        i += 1;
-    }
-    true
+    list.iter().all(|n| *n == 0)
 }
 
 // Reads a text. All that is promised here is that the output and the work area keep their lengths.
@@ -41,12 +34,12 @@ pub fn is_read_with(line: &[u8], text: &[u8], out: &mut [u8], work: &mut [u32]) 
     let room = replay_answers::byte_room(replay_cases::word(line, 2), out);
     let slots = replay_answers::ordinal_room(replay_cases::word(line, 3), work);
     match read(text, &mut out[..room], &mut work[..slots]) {
-        CountAnswer::Refused(n, no) => {
-            replay_answers::is_refusal(line, 4, n, no)
+        Err(refusal) => {
+            replay_answers::is_refusal(line, 4, refusal.number, refusal.line)
                 && replay_cases::is_untouched(out)
                 && is_left(work, slots)
         }
-        CountAnswer::Count(n) => {
+        Ok(n) => {
             replay_answers::is_ok(line, 4, 1)
                 && replay_answers::is_text(replay_cases::word(line, 5), out, n)
                 && is_left(work, slots)

@@ -29,9 +29,7 @@ ghost use Rattle.sam_header_words.specs.Words.{find_word};
 ghost use Rattle.format.specs.Seal.{sealing, tidying_fresh, checking_sealed};
 ghost use Rattle.seal.specs.Answers.{seal_left};
 
-use calls::LengthAnswer;
 use format::Node;
-use names::NamesAnswer;
 
 pub fn sam_header_read(text: &[u8], catalogue: &mut [u8]) -> u64
     ensures answer { result ≡ answer_word (answer_of (reading text.now (length catalogue.old))) }
@@ -177,8 +175,8 @@ pub fn sam_header_length(text: &[u8], catalogue: &[u8], ordinal: u32, ln: &mut u
     ensures wrote { ln.new ≡ length_left (length_answer_of (sizing text.now catalogue.now ordinal)) ln.old }
 {
     match calls::length(text, catalogue, ordinal) {
-        LengthAnswer::Refused(n, line) => sam_header_words::refusal_word(n, line),
-        LengthAnswer::Is(n) => {
+        Err(refusal) => sam_header_words::refusal_word(refusal),
+        Ok(n) => {
             *ln = n;
             0
         }
@@ -263,10 +261,10 @@ pub fn sam_header_names(
         inspected.old }
 {
     match names::names(text, catalogue, list, work, out) {
-        NamesAnswer::Refused(n, line) => sam_header_words::refusal_word(n, line),
-        NamesAnswer::Counted(n, looks) => {
-            *inspected = looks;
-            n as u64
+        Err(refusal) => sam_header_words::refusal_word(refusal),
+        Ok(counted) => {
+            *inspected = counted.looks;
+            counted.names as u64
         }
     }
 }

@@ -1,25 +1,26 @@
 // Answers as one number, for programs in C and Rust (include/sam_header.h).
 #![tactic(auto)]
 
-ghost use Rattle.std.specs.Prelude.{◌≡◌, ◌≤◌};
+ghost use Rattle.std.specs.Prelude.{◌≡◌, ◌≤◌, Err};
 ghost use Rattle.sam_header_words.specs.Words.{refusal_word, answer_word, checked_word, pair_word, FitsHalves, carried_word, key_word, line_word, field_word};
 ghost use Rattle.sam_header_words.specs.Words.{FewLeaves, leaves_word, about_number, unfit_word, verdict_word, short_word, len_word};
 ghost use Rattle.sam_header_words.specs.Words.{find_word};
 
-use binary_len::BinaryLen;
-use calls::{KeyAnswer, LineAnswer, ValuePlace};
+use binary_len::Len;
+use calls::{KeyAnswer, LineAnswer};
 use carry_on::Carried;
+use catalogue_entries::Place;
 use find::FindAnswer;
-use format::LineNo;
-use merge_judge::{Verdict, Which};
+use format::Refusal;
+use merge_judge::{MergeRefusal, Verdict, Which};
 use programs::LeavesAnswer;
 use read::{Checked, CountAnswer};
 
 // A refusal: bit 63, its number and its line.
-pub fn refusal_word(n: u8, line: LineNo) -> u64
-    ensures { result ≡ refusal_word n line.0 }
+pub fn refusal_word(refusal: Refusal) -> u64
+    ensures { result ≡ refusal_word refusal.number refusal.line.0 }
 {
-    9223372036854775808 + (n as u64) * 4294967296 + (line.0 as u64)
+    9223372036854775808 + (refusal.number as u64) * 4294967296 + (refusal.line.0 as u64)
 }
 
 // How many bytes or ordinals were written, or records counted.
@@ -27,8 +28,8 @@ pub fn answer_word(answer: CountAnswer) -> u64
     ensures { result ≡ answer_word answer }
 {
     match answer {
-        CountAnswer::Refused(n, line) => refusal_word(n, line),
-        CountAnswer::Count(n) => n as u64,
+        Err(refusal) => refusal_word(refusal),
+        Ok(n) => n as u64,
     }
 }
 
@@ -37,8 +38,8 @@ pub fn checked_word(checked: Checked) -> u64
     ensures { result ≡ checked_word checked }
 {
     match checked {
-        Checked::Refused(n, line) => refusal_word(n, line),
-        Checked::Fresh => 0,
+        Err(refusal) => refusal_word(refusal),
+        Ok(()) => 0, // fresh
     }
 }
 
@@ -55,8 +56,8 @@ pub fn leaves_word(answer: LeavesAnswer) -> u64
     ensures { result ≡ leaves_word answer }
 {
     match answer {
-        LeavesAnswer::Refused(n, line) => refusal_word(n, line),
-        LeavesAnswer::Counted(n, hops) => pair_word(hops, n as u32),
+        Err(refusal) => refusal_word(refusal),
+        Ok(found) => pair_word(found.hops, found.leaves as u32),
     }
 }
 
@@ -66,8 +67,8 @@ pub fn carried_word(carried: Carried) -> u64
     ensures { result ≡ carried_word carried }
 {
     match carried {
-        Carried::Refused(n, line) => refusal_word(n, line),
-        Carried::Written(n, lines) => pair_word(lines as u32, n as u32),
+        Err(refusal) => refusal_word(refusal),
+        Ok(written) => pair_word(written.skipped as u32, written.size as u32),
     }
 }
 
@@ -76,8 +77,8 @@ pub fn key_word(answer: KeyAnswer) -> u64
     ensures { result ≡ key_word answer }
 {
     match answer {
-        KeyAnswer::Refused(n, line) => refusal_word(n, line),
-        KeyAnswer::At(at, len) => pair_word(at, len),
+        Err(refusal) => refusal_word(refusal),
+        Ok(place) => pair_word(place.at, place.len),
     }
 }
 
@@ -86,8 +87,8 @@ pub fn line_word(answer: LineAnswer) -> u64
     ensures { result ≡ line_word answer }
 {
     match answer {
-        LineAnswer::Refused(n, line) => refusal_word(n, line),
-        LineAnswer::Is(line) => line.0 as u64,
+        Err(refusal) => refusal_word(refusal),
+        Ok(line) => line.0 as u64,
     }
 }
 
@@ -96,18 +97,18 @@ pub fn find_word(answer: FindAnswer) -> u64
     ensures { result ≡ find_word answer }
 {
     match answer {
-        FindAnswer::Refused(n, line) => refusal_word(n, line),
-        FindAnswer::Is(ordinal) => ordinal as u64,
+        Err(refusal) => refusal_word(refusal),
+        Ok(ordinal) => ordinal as u64,
     }
 }
 
 // Where a value is, or that the stand-in is used.
-pub fn field_word(place: ValuePlace) -> u64
+pub fn field_word(place: Option<Place>) -> u64
     ensures { result ≡ field_word place }
 {
     match place {
-        ValuePlace::StandIn => 18446744073709551615, // all ones
-        ValuePlace::At(at, len) => pair_word(at, len),
+        None => 18446744073709551615, // all ones
+        Some(place) => pair_word(place.at, place.len),
     }
 }
 
@@ -123,10 +124,20 @@ pub fn about_number(which: Which) -> u64
 }
 
 // A refusal because of one of the three texts of a merge. Bits 48 to 55 say which one.
-pub fn unfit_word(which: Which, n: u8, line: LineNo) -> u64
-    ensures { result ≡ unfit_word which n line.0 }
+pub fn unfit_word(which: Which, refusal: Refusal) -> u64
+    ensures { result ≡ unfit_word which refusal.number refusal.line.0 }
 {
-    refusal_word(n, line) + about_number(which) * 281474976710656
+    refusal_word(refusal) + about_number(which) * 281474976710656
+}
+
+// Why a merge is refused.
+fn misfit_word(refusal: MergeRefusal) -> u64
+    ensures { result ≡ verdict_word (Err refusal) }
+{
+    match refusal {
+        MergeRefusal::Unfit(which, refusal) => unfit_word(which, refusal),
+        MergeRefusal::Unmerged(n) => refusal_word(Refusal::of_text(n)),
+    }
 }
 
 // 0 for an accepted merge.
@@ -134,9 +145,8 @@ pub fn verdict_word(verdict: Verdict) -> u64
     ensures { result ≡ verdict_word verdict }
 {
     match verdict {
-        Verdict::Accepted => 0,
-        Verdict::Unfit(which, n, line) => unfit_word(which, n, line),
-        Verdict::Unmerged(n) => refusal_word(n, LineNo(0)),
+        Ok(()) => 0,
+        Err(refusal) => misfit_word(refusal),
     }
 }
 
@@ -148,17 +158,19 @@ fn short_word(kind: u64, n: usize) -> u64
     if n < 4611686018427387904 {
         kind + n as u64
     } else {
-        refusal_word(1, LineNo(0))
+        refusal_word(Refusal::of_text(1))
     }
 }
 
 // The length of a binary header in bytes; or bit 62, and how many bytes are needed to say more.
-pub fn len_word(len: BinaryLen) -> u64
+pub fn len_word(len: Result<Len, u8>) -> u64
     ensures { result ≡ len_word len }
 {
     match len {
-        BinaryLen::Refused(n) => refusal_word(n, LineNo(0)),
-        BinaryLen::Whole(n) => short_word(0, n),
-        BinaryLen::More(n) => short_word(4611686018427387904, n),
+        Err(n) => refusal_word(Refusal::of_text(n)),
+        Ok(known) => match known {
+            Len::Whole(n) => short_word(0, n),
+            Len::More(n) => short_word(4611686018427387904, n),
+        },
     }
 }

@@ -6,15 +6,12 @@ use mathlib.Core.List.{List, ◌++◌}
 use native.Mathlib.Omega.{arith}
 use lib.ListN.{length, take, drop, length-append}
 use lib.Seq.{take_at, length-take-le}
+use Rattle.std.specs.Prelude.{Result, Ok, Err}
 use Rattle.format.specs.Bytes.{same}
 use Rattle.format.specs.Records.{Record}
 use Rattle.format.specs.Calls.{Answer, refused, yes, then, fresh, tidying}
-use Rattle.format.specs.declared.LineNo.{LineNo}
+use Rattle.format.specs.declared.Refusal.{Refusal}
 use Rattle.lists.proofs.Bools.{never}
-use Rattle.read.specs.declared.CountAnswer.{CountAnswer}
-use Rattle.read.specs.declared.CountAnswer.TheVariants as answer
-use Rattle.read.specs.declared.Checked.{Checked}
-use Rattle.read.specs.declared.Checked.TheVariants as checked
 use Rattle.read.specs.Answers.{answer_of, output_of, checked_of}
 use Rattle.read.proofs.Fresh.{refused-is-no-answer}
 use Rattle.format.specs.Sha256.{sha256}
@@ -41,18 +38,17 @@ written xs out last n k o =
       front = ap (take n) o ∙ take_at xs (drop (length xs) out) n (sym k);
     }
 
-pub written-by : (a : Answer (List ℕ)) (out last : List ℕ) {w : CountAnswer} (n : ℕ) → w ≡ answer_of a → last ≡ output_of a out → w ≡ answer.Count n → Written a n last
+pub written-by : (a : Answer (List ℕ)) (out last : List ℕ) {w : Result ℕ Refusal} (n : ℕ) → w ≡ answer_of a → last ≡ output_of a out → w ≡ Ok n → Written a n last
 unfolding answer_of output_of
 written-by (refused m l) out last n s o e = absurd (never (cc))
 written-by (yes xs) out last n s o e = written xs out last n (cc) o
 
-pub refused-by : (a : Answer (List ℕ)) {w : CountAnswer} (n : ℕ) (l : LineNo) → w ≡ answer_of a → w ≡ answer.Refused n l → a ≡ refused n l.0
+pub refused-by : (a : Answer (List ℕ)) {w : Result ℕ Refusal} (r : Refusal) → w ≡ answer_of a → w ≡ Err r → a ≡ refused r.number r.line.0
 unfolding answer_of
-refused-by (refused m k) n l s e =
-    let x : m ≡ n = cc in
-    let y : ◌≡◌ {A = LineNo} (record { 0 = k }) l = cc in
-    rw (x, ← y) refl
-refused-by (yes xs) n l s e = absurd (never (cc))
+refused-by (refused m k) r s e =
+    let x : ◌≡◌ {A = Refusal} (record { number = m; line = record { 0 = k } }) r = cc in
+    rw (← x) refl
+refused-by (yes xs) r s e = absurd (never (cc))
 
 -- ---- the seal
 
@@ -67,7 +63,11 @@ module _ (t : List ℕ) (room : ℕ) where
 
 -- ---- the check of one, once it is known what the catalogue is
 
-told : (b : Bool) (rs : List Record) → checked_of (cond b (yes rs) (refused 33 0)) ≡ cond b checked.Fresh (checked.Refused 33 (record { 0 = 0 }))
+-- 33: the seal is another header's
+abbrev pub not-sealed : Refusal
+not-sealed = record { number = 33; line = record { 0 = 0 } }
+
+told : (b : Bool) (rs : List Record) → checked_of (cond b (yes rs) (refused 33 0)) ≡ cond b (Ok tt) (Err not-sealed)
 unfolding checked_of
 told true rs = refl
 told false rs = refl
@@ -80,7 +80,7 @@ module _ (t s : List ℕ) (room : ℕ) where
   refused-when (yes rs) n l e = ap (λ a. then a (λ own. own_seal s own rs)) (seal-refused t room n l e)
 
   told-when : (f : Answer (List Record)) (x : List ℕ) (b : Bool) → then f (λ rs. tidying t room) ≡ yes x → b ≡ same s (sha256 x)
-      → cond b checked.Fresh (checked.Refused 33 (record { 0 = 0 })) ≡ checked_of (then f (λ rs. then (sealing t room) (λ own. own_seal s own rs)))
+      → cond b (Ok tt) (Err not-sealed) ≡ checked_of (then f (λ rs. then (sealing t room) (λ own. own_seal s own rs)))
   unfolding then own_seal
   told-when (refused n l) x b e q = absurd (refused-is-no-answer n l x e)
   told-when (yes rs) x b e q =
@@ -91,6 +91,6 @@ module _ (t s : List ℕ) (room : ℕ) where
   check-refused c n l e = refused-when (fresh t c) n l e
 
   pub check-told : (c x : List ℕ) (b : Bool) → tidying_fresh t c room ≡ yes x → b ≡ same s (sha256 x)
-      → cond b checked.Fresh (checked.Refused 33 (record { 0 = 0 })) ≡ checked_of (checking_sealed t c s room)
+      → cond b (Ok tt) (Err not-sealed) ≡ checked_of (checking_sealed t c s room)
   unfolding tidying_fresh checking_sealed
   check-told c x b e q = told-when (fresh t c) x b e q

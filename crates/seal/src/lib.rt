@@ -9,8 +9,8 @@ ghost use Rattle.format.specs.Sha256.{sha256};
 ghost use Rattle.format.specs.Seal.{sealing, tidying_fresh, checking_sealed};
 ghost use Rattle.seal.specs.Answers.{seal_left};
 
-use format::LineNo;
-use read::{Checked, CheckedText, CountAnswer};
+use format::Refusal;
+use read::{Checked, CountAnswer};
 
 // Seals `text`: writes its tidy text to the front of `work`, as tidying does, and the SHA-256 of that to `seal`; or refuses as tidying does and
 // changes neither. The answer is the length of the tidy text.
@@ -19,14 +19,10 @@ pub fn seal(text: &[u8], work: &mut [u8], seal: &mut [u8; 32]) -> CountAnswer
     ensures wrote { work.new ≡ output_of (tidying text.now (length work.old)) work.old }
     ensures sealed { seal.new ≡ seal_left (sealing text.now (length work.old)) seal.old }
 {
-    match tidy::tidy(text, work) {
-        CountAnswer::Refused(n, line) => CountAnswer::Refused(n, line),
-        CountAnswer::Count(n) => {
-            let written = &work[..n];
-            sha256::hash_into(written, seal);
-            CountAnswer::Count(n)
-        }
-    }
+    let n = tidy::tidy(text, work)?;
+    let written = &work[..n];
+    sha256::hash_into(written, seal);
+    Ok(n)
 }
 
 // Writes the tidy text of a text whose catalogue is fresh.
@@ -35,10 +31,8 @@ fn tidy_fresh(text: &[u8], catalogue: &[u8], work: &mut [u8]) -> CountAnswer
     ensures wrote { work.new
         ≡ output_of (tidying_fresh text.now catalogue.now (length work.old)) work.old }
 {
-    match read::check_text(text, catalogue) {
-        CheckedText::Refused(n, line) => CountAnswer::Refused(n, line),
-        CheckedText::Fresh(once) => tidy::write_accepted(text, once, work),
-    }
+    let once = read::check_text(text, catalogue)?;
+    tidy::write_accepted(text, once, work)
 }
 
 // Whether `seal` is the SHA-256 of a text. All 32 bytes are compared.
@@ -57,14 +51,10 @@ pub fn check_sealed(text: &[u8], catalogue: &[u8], seal: &[u8; 32], work: &mut [
     ensures wrote { work.new
         ≡ output_of (tidying_fresh text.now catalogue.now (length work.old)) work.old }
 {
-    match tidy_fresh(text, catalogue, work) {
-        CountAnswer::Refused(n, line) => Checked::Refused(n, line),
-        CountAnswer::Count(n) => {
-            let written = &work[..n];
-            if is_seal(seal, written) {
-                return Checked::Fresh;
-            }
-            Checked::Refused(33, LineNo(0))
-        }
+    let n = tidy_fresh(text, catalogue, work)?;
+    let written = &work[..n];
+    if is_seal(seal, written) {
+        return Ok(());
     }
+    Err(Refusal::of_text(33))
 }

@@ -3,7 +3,7 @@ use Prim.Native.Nat.{ℕ}
 use mathlib.Core.Path.{◌≡◌, refl}
 use mathlib.Core.List.{List, [], ◌∷◌}
 use Rattle.format.specs.Calls.{Answer, yes, refused, reading, fresh}
-use Rattle.read.specs.declared.Checked.TheVariants.{Fresh}
+use Rattle.std.specs.Prelude.{Ok}
 use Rattle.read.specs.Answers.{checked_of}
 use Rattle.format.proofs.Ascii.{ascii}
 use Rattle.format.specs.Sha256.{sha256}
@@ -25,7 +25,7 @@ pub planned-kept : reading planned 21 ≡ yes kept
 unfolding planned kept reading
 planned-kept = refl
 
-pub edited-fresh : checked_of (fresh edited kept) ≡ Fresh
+pub edited-fresh : checked_of (fresh edited kept) ≡ Ok tt
 unfolding edited kept fresh checked_of
 edited-fresh = refl
 

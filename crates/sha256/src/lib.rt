@@ -2,7 +2,7 @@
 #![tactic(auto)]
 
 ghost use Rattle.std.specs.Prelude.{◌≡◌, ◌+◌, ◌*◌, ◌/◌, ◌<◌, ◌≤◌, length, take, drop};
-ghost use Rattle.format.specs.Sha256.{sum32, Ch, Maj, Σ0, Σ1, σ0, σ1, K as round_constants, H0, words, next, extend, round, rounds, sum, compress};
+ghost use Rattle.format.specs.Sha256.{Ch, Maj, Σ0, Σ1, σ0, σ1, K as round_constants, H0, words, next, extend, round, rounds, sum, compress};
 ghost use Rattle.format.specs.Sha256.{big, parse, hashed, digest, sha256};
 ghost use Rattle.sha256.specs.Parts.{value_of, word_at, last_blocks};
 ghost use Rattle.byte_slices.specs.Over.{over};
@@ -18,13 +18,6 @@ pub struct State {
     pub f: u32,
     pub g: u32,
     pub h: u32,
-}
-
-// The sum modulo 2^32.
-fn plus(x: u32, y: u32) -> u32
-    ensures { result ≡ sum32 x y }
-{
-    ((x as u64 + y as u64) % 4294967296) as u32
 }
 
 // Each bit of `y` where `x` has a 1, and each bit of `z` where `x` has a 0.
@@ -45,39 +38,44 @@ fn maj(x: u32, y: u32, z: u32) -> u32
 fn upper0(x: u32) -> u32
     ensures { result ≡ Σ0 x }
 {
-    ((x >> 2) | (x << 30)) ^ ((x >> 13) | (x << 19)) ^ ((x >> 22) | (x << 10))
+    x.rotate_right(2) ^ x.rotate_right(13) ^ x.rotate_right(22)
 }
 
 fn upper1(x: u32) -> u32
     ensures { result ≡ Σ1 x }
 {
-    ((x >> 6) | (x << 26)) ^ ((x >> 11) | (x << 21)) ^ ((x >> 25) | (x << 7))
+    x.rotate_right(6) ^ x.rotate_right(11) ^ x.rotate_right(25)
 }
 
 fn lower0(x: u32) -> u32
     ensures { result ≡ σ0 x }
 {
-    ((x >> 7) | (x << 25)) ^ ((x >> 18) | (x << 14)) ^ (x >> 3)
+    x.rotate_right(7) ^ x.rotate_right(18) ^ (x >> 3)
 }
 
 fn lower1(x: u32) -> u32
     ensures { result ≡ σ1 x }
 {
-    ((x >> 17) | (x << 15)) ^ ((x >> 19) | (x << 13)) ^ (x >> 10)
+    x.rotate_right(17) ^ x.rotate_right(19) ^ (x >> 10)
 }
 
 // One round, for its constant and its word of the schedule.
 fn round(s: State, k: u32, w: u32) -> State
     ensures { value_of result ≡ round (value_of s) k w }
 {
-    let t1 = plus(plus(plus(plus(s.h, upper1(s.e)), ch(s.e, s.f, s.g)), k), w);
-    let t2 = plus(upper0(s.a), maj(s.a, s.b, s.c));
+    let t1 = s
+        .h
+        .wrapping_add(upper1(s.e))
+        .wrapping_add(ch(s.e, s.f, s.g))
+        .wrapping_add(k)
+        .wrapping_add(w);
+    let t2 = upper0(s.a).wrapping_add(maj(s.a, s.b, s.c));
     State {
-        a: plus(t1, t2),
+        a: t1.wrapping_add(t2),
         b: s.a,
         c: s.b,
         d: s.c,
-        e: plus(s.d, t1),
+        e: s.d.wrapping_add(t1),
         f: s.e,
         g: s.f,
         h: s.g,
@@ -89,14 +87,14 @@ fn sum(s: State, t: State) -> State
     ensures { value_of result ≡ sum (value_of s) (value_of t) }
 {
     State {
-        a: plus(s.a, t.a),
-        b: plus(s.b, t.b),
-        c: plus(s.c, t.c),
-        d: plus(s.d, t.d),
-        e: plus(s.e, t.e),
-        f: plus(s.f, t.f),
-        g: plus(s.g, t.g),
-        h: plus(s.h, t.h),
+        a: s.a.wrapping_add(t.a),
+        b: s.b.wrapping_add(t.b),
+        c: s.c.wrapping_add(t.c),
+        d: s.d.wrapping_add(t.d),
+        e: s.e.wrapping_add(t.e),
+        f: s.f.wrapping_add(t.f),
+        g: s.g.wrapping_add(t.g),
+        h: s.h.wrapping_add(t.h),
     }
 }
 
@@ -173,11 +171,7 @@ fn word(s: &[u8], at: usize) -> u32
     requires { at + 4 ≤ length s.now }
     ensures { result ≡ word_at s.now at }
 {
-    let a = s[at] as u32;
-    let b = s[at + 1] as u32;
-    let c = s[at + 2] as u32;
-    let d = s[at + 3] as u32;
-    16777216 * a + 65536 * b + 256 * c + d
+    u32::from_be_bytes([s[at], s[at + 1], s[at + 2], s[at + 3]])
 }
 
 // The sixteen words of the block at `at`, with room for the rest of the schedule after them.
@@ -186,10 +180,8 @@ fn words(s: &[u8], at: usize) -> [u32; 64]
     ensures { take 16 result ≡ words (take 64 (drop at s.now)) }
 {
     let mut w: [u32; 64] = [0; 64];
-    let mut i: usize = 0;
-    while i < 16 {
+    for i in 0..16 {
         w[i] = word(s, at + 4 * i);
-        i += 1;
     }
     w
 }
@@ -199,10 +191,10 @@ fn next(w: &[u32; 64], t: usize) -> u32
     requires { (16 ≤ t) × ((t < 64) × (length w.now ≡ 64)) }
     ensures { result ≡ next (take t w.now) }
 {
-    plus(
-        plus(plus(lower1(w[t - 2]), w[t - 7]), lower0(w[t - 15])),
-        w[t - 16],
-    )
+    lower1(w[t - 2])
+        .wrapping_add(w[t - 7])
+        .wrapping_add(lower0(w[t - 15]))
+        .wrapping_add(w[t - 16])
 }
 
 // The schedule: the sixteen words and 48 more.
@@ -210,10 +202,8 @@ fn extended(words: [u32; 64]) -> [u32; 64]
     ensures { result ≡ extend 48 (take 16 words) }
 {
     let mut w = words;
-    let mut t: usize = 16;
-    while t < 64 {
+    for t in 16..64 {
         w[t] = next(&w, t);
-        t += 1;
     }
     w
 }
@@ -225,13 +215,12 @@ fn rounds(w: &[u32; 64], start: State) -> State
 {
     let k = K;
     let mut s = start;
-    let mut t: usize = 0;
-    while t < 64 {
+    for step in 0..16 {
+        let t = 4 * step;
         s = round(s, k[t], w[t]);
         s = round(s, k[t + 1], w[t + 1]);
         s = round(s, k[t + 2], w[t + 2]);
         s = round(s, k[t + 3], w[t + 3]);
-        t += 4;
     }
     s
 }
@@ -267,10 +256,8 @@ fn whole(text: &[u8]) -> State
 {
     let blocks = text.len() / 64;
     let mut s = initial();
-    let mut i: usize = 0;
-    while i < blocks {
+    for i in 0..blocks {
         s = compress(s, text, 64 * i);
-        i += 1;
     }
     s
 }
@@ -280,10 +267,7 @@ fn put_big(out: &mut [u8], at: usize, v: u32)
     requires { at + 4 ≤ length out.old }
     ensures { out.new ≡ over out.old at (big 4 v) }
 {
-    out[at] = (v / 16777216 % 256) as u8;
-    out[at + 1] = (v / 65536 % 256) as u8;
-    out[at + 2] = (v / 256 % 256) as u8;
-    out[at + 3] = (v % 256) as u8;
+    out[at..at + 4].copy_from_slice(&v.to_be_bytes());
 }
 
 // Writes the number of bits of `n` bytes in eight bytes at `at`, the highest first.

@@ -16,10 +16,8 @@ fn wide(b: u8) -> u64 {
 
 // Writes a digest in hexadecimal digits.
 fn show(digest: [u8; 32]) {
-    let mut i: usize = 0;
-    while i < 32 {
-        io::print_hex(STDOUT_FILENO, wide(digest[i]), 2);
-        i += 1;
+    for b in &digest {
+        io::print_hex(STDOUT_FILENO, wide(*b), 2);
     }
 }
 

@@ -6,8 +6,6 @@ ghost use Rattle.format.specs.Little.{of_little};
 ghost use Rattle.format.specs.SipHash.{round, rounds, initial, absorb, absorbed, words, finish, sip, key_of};
 ghost use Rattle.sip_hash.specs.Parts.{state_of};
 
-use std::num::wrapping_add_u64;
-
 // The four words that the rounds mix.
 #[derive(Clone, Copy)]
 struct State {
@@ -29,17 +27,17 @@ impl State {
     fn round(self) -> State
         ensures { state_of result ≡ round (state_of self) }
     {
-        let a = wrapping_add_u64(self.v0, self.v1);
-        let b = wrapping_add_u64(self.v2, self.v3);
-        let v1 = ((self.v1 << 13) | (self.v1 >> 51)) ^ a;
-        let v3 = ((self.v3 << 16) | (self.v3 >> 48)) ^ b;
-        let v0 = wrapping_add_u64((a << 32) | (a >> 32), v3);
-        let v2 = wrapping_add_u64(b, v1);
+        let a = self.v0.wrapping_add(self.v1);
+        let b = self.v2.wrapping_add(self.v3);
+        let v1 = self.v1.rotate_left(13) ^ a;
+        let v3 = self.v3.rotate_left(16) ^ b;
+        let v0 = a.rotate_left(32).wrapping_add(v3);
+        let v2 = b.wrapping_add(v1);
         State {
             v0,
-            v1: ((v1 << 17) | (v1 >> 47)) ^ v2,
-            v2: (v2 << 32) | (v2 >> 32),
-            v3: ((v3 << 21) | (v3 >> 43)) ^ v0,
+            v1: v1.rotate_left(17) ^ v2,
+            v2: v2.rotate_left(32),
+            v3: v3.rotate_left(21) ^ v0,
         }
     }
 
@@ -48,10 +46,8 @@ impl State {
         ensures { state_of result ≡ rounds n (state_of self) }
     {
         let mut s = self;
-        let mut i: usize = 0;
-        while i < n {
+        for _ in 0..n {
             s = s.round();
-            i += 1;
         }
         s
     }
@@ -108,10 +104,8 @@ fn whole(c: usize, start: State, bytes: &[u8]) -> State
 {
     let n = bytes.len() / 8;
     let mut s = start;
-    let mut i: usize = 0;
-    while i < n {
+    for i in 0..n {
         s = s.absorb(c, little_endian::get_u64(bytes, 8 * i));
-        i += 1;
     }
     s
 }
@@ -122,9 +116,7 @@ fn tail(bytes: &[u8], start: usize) -> u64
     ensures { (result ≡ of_little (drop start bytes.now)) × (result < 72057594037927936) }
 {
     let mut w: u64 = 0;
-    let mut i = bytes.len();
-    while start < i {
-        i -= 1;
+    for i in (start..bytes.len()).rev() {
         w = w * 256 + bytes[i] as u64;
     }
     w

@@ -32,10 +32,8 @@ fn key() -> Key {
 fn main() {
     let k = key();
     let mut message: [u8; 64] = [0; 64];
-    let mut i: usize = 0;
-    while i < 64 {
+    for i in 0..64 {
         show(k, &message[..i]);
         message[i] = i as u8;
-        i += 1;
     }
 }

@@ -13,18 +13,18 @@ use Rattle.accepted.proofs.Read.{accepted-reads}
 use Rattle.accepted.specs.Read.{is_accepted, records_of}
 use Rattle.tidy_text.specs.Accepted.{measured_of}
 use Rattle.tidy_sizes.specs.declared.PerKind.{PerKind}
-use Rattle.tidy_text.specs.declared.Measured.TheVariants.{Unwritable, Is}
+use Rattle.std.specs.Prelude.{Ok, Err}
 
 -- ---- by what was measured
 
-pub measured-bad : (o : Option ℕ) (n : PerKind) (l : LineNo) → measured_of o n ≡ Unwritable l → o ≡ some l.0
+pub measured-bad : (o : Option ℕ) (n : PerKind) (l : LineNo) → measured_of o n ≡ Err l → o ≡ some l.0
 unfolding measured_of
 measured-bad none n l e = absurd (let z : ◌≡◌ {A = ℕ} 0 1 = cc in omega arith)
 measured-bad (some k) n l e =
     let y : ◌≡◌ {A = LineNo} (record { 0 = k }) l = cc in
     rw (← y) refl
 
-pub measured-is : (o : Option ℕ) (n m : PerKind) → measured_of o n ≡ Is m → (o ≡ none) × (n ≡ m)
+pub measured-is : (o : Option ℕ) (n m : PerKind) → measured_of o n ≡ Ok m → (o ≡ none) × (n ≡ m)
 unfolding measured_of
 measured-is none n m e = (refl, cc)
 measured-is (some k) n m e = absurd (let z : ◌≡◌ {A = ℕ} 0 1 = cc in omega arith)

@@ -12,10 +12,9 @@ ghost use Rattle.read_judge.specs.Judged.{judgement};
 ghost use Rattle.read.specs.Answers.{answer_of, output_of};
 ghost use Rattle.tidy.specs.Written.{writing_tidy, writing_marked};
 
-use format::LineNo;
+use format::Refusal;
 use read::CountAnswer;
 use read_judge::Judged;
-use tidy_text::Measured;
 
 // Writes the tidy text of an accepted text without the programs whose mark is false, or refuses with 24, then 1, then 20.
 pub fn write_marked(text: &[u8], strict: bool, marks: &[bool], out: &mut [u8]) -> CountAnswer
@@ -27,15 +26,15 @@ pub fn write_marked(text: &[u8], strict: bool, marks: &[bool], out: &mut [u8]) -
         out.old }
 {
     match tidy_text::measure_marked(text, strict, marks) {
-        Measured::Unwritable(line) => CountAnswer::Refused(24, line),
-        Measured::Is(sizes) => {
+        Err(line) => Err(Refusal { number: 24, line }),
+        Ok(sizes) => {
             let n = sizes.total();
             let unfit = tidy_sizes::fit(n, 0, 0, out.len());
             if unfit != 0 {
-                return CountAnswer::Refused(unfit, LineNo(0));
+                return Err(Refusal::of_text(unfit));
             }
             let n = tidy_text::put_marked(text, strict, marks, sizes, out);
-            CountAnswer::Count(n)
+            Ok(n)
         }
     }
 }
@@ -56,10 +55,8 @@ fn tidy_judged(text: &[u8], judged: Judged, out: &mut [u8]) -> CountAnswer
     ensures answer { result ≡ answer_of (tidying text.now (length out.old)) }
     ensures wrote { out.new ≡ output_of (tidying text.now (length out.old)) out.old }
 {
-    match judged {
-        Judged::Refused(n, line) => CountAnswer::Refused(n, line),
-        Judged::Accepted(_, once) => write_accepted(text, once, out),
-    }
+    let accepted = judged?;
+    write_accepted(text, accepted.once, out)
 }
 
 // Tidies `text` into the front of `out`, or answers the first refusal and changes nothing.

@@ -11,8 +11,8 @@ use borrow.Author.Tests.{lt-ltb, le-ltb, ltb-false}
 use Rattle.format.specs.Reading.{Reading, refused_text, accept, read_text, longest}
 use Rattle.format.specs.Tidy.{tidy, unwritable}
 use Rattle.format.specs.Calls.{Answer, refused, yes, then, read_answer, records, fitting, writing, tidying}
-use Rattle.format.specs.declared.LineNo.{LineNo}
-use Rattle.read.specs.declared.CountAnswer.TheVariants.{Refused, Count}
+use Rattle.std.specs.Prelude.{Ok, Err}
+use Rattle.format.specs.declared.Refusal.{Refusal}
 use Rattle.read.specs.Answers.{answer_of, output_of}
 use Rattle.byte_slices.specs.Over.{over}
 use Rattle.byte_slices.proofs.Over.{over-length}
@@ -88,15 +88,14 @@ program-within t out last n e w h = omega (arith, program-fits t, program-length
 
 -- ---- by what the call answered
 
-pub told-refused : (x : Answer (List ℕ)) (n : ℕ) (l : LineNo) → answer_of x ≡ Refused n l → (said x ≡ refusal n l.0) × ((out : List ℕ) → output_of x out ≡ out)
+pub told-refused : (x : Answer (List ℕ)) (r : Refusal) → answer_of x ≡ Err r → (said x ≡ refusal r.number r.line.0) × ((out : List ℕ) → output_of x out ≡ out)
 unfolding answer_of output_of said
-told-refused (refused m k) n l e =
-    let p : m ≡ n = cc in
-    let q : ◌≡◌ {A = LineNo} (record { 0 = k }) l = cc in
-    (ap (λ m. refusal m k) p ∙ ap (λ l. refusal n l.0) q, λ out. refl)
-told-refused (yes xs) n l e = absurd (never cc)
+told-refused (refused m k) r e =
+    let p : ◌≡◌ {A = Refusal} (record { number = m; line = record { 0 = k } }) r = cc in
+    (ap (λ q. refusal q.number q.line.0) p, λ out. refl)
+told-refused (yes xs) r e = absurd (never cc)
 
-pub told-count : (x : Answer (List ℕ)) (n : ℕ) → answer_of x ≡ Count n → (n ≡ length (said x)) × ((out : List ℕ) → output_of x out ≡ over out 0 (said x))
+pub told-count : (x : Answer (List ℕ)) (n : ℕ) → answer_of x ≡ Ok n → (n ≡ length (said x)) × ((out : List ℕ) → output_of x out ≡ over out 0 (said x))
 unfolding answer_of output_of said over
 told-count (refused m k) n e = absurd (never cc)
 told-count (yes xs) n e =

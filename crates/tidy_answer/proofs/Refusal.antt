@@ -5,7 +5,6 @@ use mathlib.Core.List.{List, [], ◌∷◌, ◌++◌}
 use native.Mathlib.Omega.{arith}
 use lib.ListN.{length, set, length-append}
 use Rattle.format.specs.Decimal.{written}
-use Rattle.byte_slices.specs.Over.{over}
 use Rattle.decimal.proofs.Written.{written-short}
 use Rattle.tidy_parts.proofs.Wrote.{Wrote, wrote_then, wrote_one}
 use Rattle.format.specs.Program.{spelled_refused, spelled_line, refusal}

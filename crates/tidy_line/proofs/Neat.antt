@@ -1,19 +1,19 @@
 -- The record's text of an accepted line whose keys come first: the line itself, and the LF.
-use Prim.Native.Nat.{ℕ, ◌+◌, ◌-◌, ◌^◌, ◌≤◌, ◌<◌}
+use Prim.Native.Nat.{ℕ, ◌+◌, ◌-◌, ◌≤◌, ◌<◌}
 use mathlib.Core.Path.{◌≡◌, refl, sym, ap, subst, ◌∙◌}
-use mathlib.Core.Bool.{Bool, true, false, not, ◌&&◌, ◌||◌, cond}
+use mathlib.Core.Bool.{true, false, not, ◌&&◌, ◌||◌}
 use mathlib.Core.List.{List, [], ◌∷◌, ◌++◌, append_assoc}
-use mathlib.Core.Option.{Option, none, some}
+use mathlib.Core.Option.{some}
 use native.Mathlib.Omega.{arith}
 use lib.ListN.{length, drop, get_or}
 use lib.Seq.{get_or-drop}
 use lib.Dec.{eqb, ltb}
-use borrow.Author.Tests.{eqb-true, eq-eqb, eqb-false, ltb-false, not-true}
+use borrow.Author.Tests.{eqb-true, eqb-false, ltb-false, not-true}
 use Rattle.format.specs.Bytes.{any, none?}
 use Rattle.format.specs.Decimal.{worth, digits, written}
 use Rattle.format.specs.Lines.{Piece}
 use Rattle.format.specs.Fields.{Field, tagged, repeats, later, last_of}
-use Rattle.format.specs.Records.{Record, header, reference, group, program, comment, Line, refused_line, read, line, made, versioned, announcing, measured, keyed}
+use Rattle.format.specs.Records.{Record, reference, group, program, read, made, versioned, announcing, measured, keyed}
 use Rattle.format.specs.Tidy.{field_text, fields_text, record_text}
 use Rattle.format.specs.declared.Kind.{Kind}
 use Rattle.format.specs.declared.Kind.TheVariants.{Header, ReferenceSequence, ReadGroup, Program, Comment}
@@ -21,10 +21,9 @@ use Rattle.byte_slices.specs.Upto.{upto}
 use Rattle.accepted.specs.Spelled as sp
 use Rattle.accepted.specs.Spelled.{Made, Spelled, AcceptedLine, kind₀, kind₁}
 use Rattle.lists.proofs.Bools.{never, and_left, and_right, or_left, or_right}
-use Rattle.accepted.proofs.Spelled.{line-accepted}
 use Rattle.accepted_line.specs.Run.{fields_from, AtField}
 use Rattle.accepted_line.specs.Next.{field_length}
-use Rattle.accepted_line.proofs.fields.Here.{Here, Found, found}
+use Rattle.accepted_line.proofs.fields.Here.{Found, found}
 use Rattle.accepted_line.proofs.fields.Start.{accepted-start, accepted-fields}
 use Rattle.accepted_line.specs.Found.{kind_by}
 use Rattle.accepted_line.proofs.Finds.{Number, first_byte, number}

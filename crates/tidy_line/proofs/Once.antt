@@ -1,17 +1,17 @@
 -- A line in which no tag is repeated: its fields but the keys are its record's other fields, byte for byte.
 use Prim.Native.Nat.{ℕ, ◌+◌}
-use mathlib.Core.Path.{◌≡◌, refl, sym, ap, ap₂, subst, ◌∙◌}
+use mathlib.Core.Path.{◌≡◌, refl, sym, ap, ap₂, ◌∙◌}
 use mathlib.Core.Bool.{Bool, true, false, ◌&&◌, ◌||◌, cond}
 use mathlib.Core.List.{List, [], ◌∷◌}
 use mathlib.Core.Option.{Option, none, some}
 use native.Mathlib.Omega.{arith}
-use lib.ListN.{length, drop, get_or, length-drop}
+use lib.ListN.{length, get_or, length-drop}
 use lib.Dec.{eqb}
 use borrow.Author.Tests.{eqb-true}
 use Rattle.format.specs.Bytes.{any}
 use Rattle.format.specs.Lines.{Piece}
-use Rattle.format.specs.Fields.{Field, tagged, repeats, later, last_of, without, settled}
-use Rattle.format.specs.Records.{Record, others, read, line}
+use Rattle.format.specs.Fields.{Field, tagged, repeats, later, last_of, without}
+use Rattle.format.specs.Records.{Record, others, line}
 use Rattle.format.specs.Tidy.{fields_text}
 use Rattle.format.specs.declared.Kind.{Kind}
 use Rattle.accepted.specs.Read.{is_read}

@@ -29,7 +29,7 @@ use Rattle.tidy_laws.proofs.Once.{last-absent}
 use Rattle.tidy_name.specs.Runs.{later_run, name_run}
 use Rattle.tidy_name.proofs.Runs.{name-taken}
 use Rattle.tidy_neat.specs.Neat.{has_tag, plain_length, neat, named_before, named_sequence, ready}
-use Rattle.tidy_line.proofs.Neat.{First, of, own, first, rest-is, start, fields, once}
+use Rattle.tidy_line.proofs.Neat.{First, own, first, rest-is, start, fields, once}
 
 -- ---- a name and a tab
 

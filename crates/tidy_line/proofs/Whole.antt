@@ -1,7 +1,7 @@
 -- An accepted line that is its record's text.
 use Prim.Native.Nat.{ℕ}
 use mathlib.Core.Path.{◌≡◌, refl, sym, ap, ◌∙◌}
-use mathlib.Core.Bool.{Bool, true, false}
+use mathlib.Core.Bool.{true, false}
 use mathlib.Core.List.{List, [], ◌∷◌, ◌++◌}
 use lib.ListN.{get_or}
 use Rattle.format.specs.Fields.{Field, repeats}
@@ -15,7 +15,7 @@ use Rattle.accepted.specs.Spelled.{Made, Spelled, AcceptedLine}
 use Rattle.accepted.specs.Sound.{kind}
 use Rattle.lists.proofs.Bools.{never}
 use Rattle.accepted.proofs.Spelled.{line-accepted}
-use Rattle.accepted_line.specs.Run.{fields_of, fields_from, AtField}
+use Rattle.accepted_line.specs.Run.{fields_of, AtField}
 use Rattle.accepted_line.proofs.fields.Start.{accepted-fields}
 use Rattle.accepted_line.specs.Found.{kind_by}
 use Rattle.accepted_line.proofs.Finds.{accepted-byte, by-record}

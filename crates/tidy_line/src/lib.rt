@@ -19,13 +19,6 @@ use accepted_line::{Form, KeyValues};
 use format::{Kind, Version};
 use record::{Head, Stretch};
 
-// How many bytes a record takes, if it can be written.
-#[derive(Clone, Copy)]
-pub enum Size {
-    Unwritable,
-    Is(usize),
-}
-
 // The keys of an SQ: where its name is in the text, and its length.
 #[derive(Clone, Copy)]
 struct SequenceKeys {
@@ -179,10 +172,8 @@ fn keys_len(kind: Kind, keys: KeyValues) -> usize
     let key = keys.key.len;
     let number = keys.number.len;
     match kind {
-        Kind::Header => 4 + key,
+        Kind::Header | Kind::ReadGroup | Kind::Program => 4 + key,
         Kind::ReferenceSequence => 8 + key + number,
-        Kind::ReadGroup => 4 + key,
-        Kind::Program => 4 + key,
         Kind::Comment => 0,
     }
 }
@@ -193,21 +184,16 @@ fn head_len(head: Head, others: usize) -> usize
     ensures { result ≡ head_length head others }
 {
     match head {
-        Head::Refused(_) => 0,
+        Head::Refused(_) | Head::Comment(_) => 0,
         Head::Header(v, _) => 8 + tidy_parts::version_len(v) + others,
         Head::ReferenceSequence(p, n, _) => {
             let name = p.len;
             12 + name + decimal::len_u64(n) + others
         }
-        Head::ReadGroup(p, _) => {
+        Head::ReadGroup(p, _) | Head::Program(p, _) => {
             let id = p.len;
             8 + id + others
         }
-        Head::Program(p, _) => {
-            let id = p.len;
-            8 + id + others
-        }
-        Head::Comment(_) => 0,
     }
 }
 
@@ -240,26 +226,26 @@ fn parts_len(kind: Kind, src: &[u8], at: usize, keys: KeyValues, others: usize) 
     head_len(accepted_line::head_of(kind, src, at, keys), others)
 }
 
-// How many bytes the record of a line that repeats no tag takes. Only the key fields are looked at.
-fn once_size(kind: Kind, src: &[u8], at: usize) -> Size
+// How many bytes the record of a line that repeats no tag takes, if it can be written. Only the key fields are looked at.
+fn once_size(kind: Kind, src: &[u8], at: usize) -> Option<usize>
     requires line_of { LineOf kind at src.now }
     requires kind_value { is_comment kind ≡ false }
     requires at_field { AtField true at src.now 3 }
     ensures { result ≡ line_size (line false (record { at = at; bytes = src.now })) }
 {
     if tidy_neat::is_ready(kind, src) {
-        return Size::Is(src.len() + 1);
+        return Some(src.len() + 1);
     }
     if !is_writable(kind, src, at, &[]) {
-        return Size::Unwritable;
+        return None;
     }
     let keys = accepted_line::find_keys(kind, src, at, &[]);
     let others = src.len() - 3 - keys_len(kind, keys);
-    Size::Is(parts_len(kind, src, at, keys, others))
+    Some(parts_len(kind, src, at, keys, others))
 }
 
-// How many bytes the record of a line that may repeat a tag takes. Its tables are made first.
-fn noted_size(kind: Kind, src: &[u8], at: usize) -> Size
+// How many bytes the record of a line that may repeat a tag takes, if it can be written. Its tables are made first.
+fn noted_size(kind: Kind, src: &[u8], at: usize) -> Option<usize>
     requires line_of { LineOf kind at src.now }
     requires kind_value { is_comment kind ≡ false }
     ensures { result ≡ line_size (line false (record { at = at; bytes = src.now })) }
@@ -267,21 +253,21 @@ fn noted_size(kind: Kind, src: &[u8], at: usize) -> Size
     let mut tables = [0u32; 6448];
     accepted_line::fields::note_tags(src, at, &mut tables);
     if !is_writable(kind, src, at, &tables) {
-        return Size::Unwritable;
+        return None;
     }
     let keys = accepted_line::find_keys(kind, src, at, &tables);
     let others = tidy_fields::other_fields_len(kind, src, at, &tables);
-    Size::Is(parts_len(kind, src, at, keys, others))
+    Some(parts_len(kind, src, at, keys, others))
 }
 
-// How many bytes the record of an accepted line takes, or that it can't be written.
-pub fn line_size(src: &[u8], at: usize, strict: bool) -> Size
+// How many bytes the record of an accepted line takes, if it can be written.
+pub fn line_size(src: &[u8], at: usize, strict: bool) -> Option<usize>
     requires src_value { is_read (line strict (record { at = at; bytes = src.now })) ≡ true }
     requires src_bound { at + length src.now ≤ 16777216 }
     ensures { result ≡ line_size (line strict (record { at = at; bytes = src.now })) }
 {
     match accepted_line::form_of(src, at, strict) {
-        Form::Comment => Size::Is(src.len() + 1),
+        Form::Comment => Some(src.len() + 1),
         Form::Once(kind) => once_size(kind, src, at),
         Form::Repeating(kind) => noted_size(kind, src, at),
     }

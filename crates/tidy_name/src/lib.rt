@@ -106,29 +106,24 @@ const CLASSES: [u8; 256] = [
 pub fn name_len(s: &[u8]) -> usize
     ensures { result ≡ name_run s.now }
 {
-    if s.len() == 0 {
+    if s.is_empty() {
         return 0;
     }
     let classes = CLASSES;
     if classes[s[0] as usize] != ANYWHERE {
         return 0;
     }
-    let mut i: usize = 1;
-    while i < s.len() {
+    for i in 1..s.len() {
         if classes[s[i] as usize] == NEVER {
             return i;
         }
-        i += 1;
     }
-    i
+    s.len()
 }
 
 // Whether `s` can be written as a reference name.
 pub fn is_name(s: &[u8]) -> bool
     ensures { result ≡ is_name s.now }
 {
-    if s.len() == 0 {
-        return false;
-    }
-    name_len(s) == s.len()
+    !s.is_empty() && name_len(s) == s.len()
 }

@@ -53,8 +53,7 @@ pub fn is_neat(kind: Kind, src: &[u8]) -> bool
     match kind {
         Kind::Header => false,
         Kind::ReferenceSequence => is_reference_sequence(src),
-        Kind::ReadGroup => has_tag(src, 3, b'I', b'D'),
-        Kind::Program => has_tag(src, 3, b'I', b'D'),
+        Kind::ReadGroup | Kind::Program => has_tag(src, 3, b'I', b'D'),
         Kind::Comment => true,
     }
 }

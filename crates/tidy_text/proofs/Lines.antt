@@ -6,12 +6,12 @@ use mathlib.Core.List.{List, [], ◌∷◌}
 use lib.ListN.{length, take, drop}
 use Rattle.format.specs.Lines.{Piece, lines}
 use Rattle.format.specs.Records.{Record, read, line}
-use Rattle.format.specs.Reading.{Reading, refused_text, accept, read_text}
+use Rattle.format.specs.Reading.{accept, read_text}
 use Rattle.byte_slices.specs.First.{first_line}
 use Rattle.byte_slices.specs.declared.Cut.{Cut}
 use Rattle.lists.specs.Pairs.{Pairs}
 use Rattle.accepted.specs.Read.{is_accepted, is_read, records_of}
-use Rattle.lists.proofs.Bools.{never, and_left, and_right}
+use Rattle.lists.proofs.Bools.{and_left, and_right}
 use Rattle.accepted.proofs.Text.{text-fits}
 use Rattle.accepted_rule.specs.Rule.{ReadsBy}
 use Rattle.accepted_rule.proofs.Rule.{lines-by}

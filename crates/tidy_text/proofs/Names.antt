@@ -10,13 +10,12 @@ use Rattle.format.specs.Tidy.{unwritable}
 use Rattle.lists.proofs.Bools.{never}
 use Rattle.accepted.proofs.Ahead.{lent}
 use Rattle.tidy_line.specs.Line.{line_text, line_writable, line_size}
-use Rattle.tidy_line.specs.declared.Size.TheVariants.{Unwritable, Is}
+use Rattle.std.specs.Prelude.{Some, None}
 use Rattle.format.specs.declared.Kind.{Kind}
 use Rattle.tidy_text.specs.Accepted.{with_record, records_from}
 use Rattle.tidy_sizes.specs.Numbers.{plus}
 use Rattle.tidy_text.specs.Sizes.{grown_by}
 use Rattle.tidy_sizes.specs.declared.PerKind.{PerKind}
-use Rattle.tidy_text.specs.declared.Grown.TheVariants as grown
 use Rattle.tidy_text.proofs.Lines.{Turn, ended}
 use Rattle.byte_slices.specs.declared.Cut.{Cut}
 use Rattle.accepted.specs.Read.{is_read}
@@ -44,46 +43,46 @@ unwritable-ended strict t at h l = ap (unwritable l) (ended strict t at h)
 
 -- ---- by a line's size
 
-size-bad : (p : Line) → line_size p ≡ Unwritable → line_writable p ≡ false
+size-bad : (p : Line) → line_size p ≡ None → line_writable p ≡ false
 unfolding line_size
 size-bad p e = go (line_writable p) refl e
   where
-    go : (b : Bool) → line_writable p ≡ b → cond b (Is (length (line_text p))) Unwritable ≡ Unwritable → line_writable p ≡ false
+    go : (b : Bool) → line_writable p ≡ b → cond b (Some (length (line_text p))) None ≡ None → line_writable p ≡ false
     go true q e = absurd (never (cc))
     go false q e = q
 
-pub size_is : (p : Line) (k : ℕ) → line_size p ≡ Is k → (line_writable p ≡ true) × (length (line_text p) ≡ k)
+pub size_is : (p : Line) (k : ℕ) → line_size p ≡ Some k → (line_writable p ≡ true) × (length (line_text p) ≡ k)
 unfolding line_size
 size_is p k e = go (line_writable p) refl e
   where
-    go : (b : Bool) → line_writable p ≡ b → cond b (Is (length (line_text p))) Unwritable ≡ Is k → (line_writable p ≡ true) × (length (line_text p) ≡ k)
+    go : (b : Bool) → line_writable p ≡ b → cond b (Some (length (line_text p))) None ≡ Some k → (line_writable p ≡ true) × (length (line_text p) ≡ k)
     go true q e = (q, cc)
     go false q e = absurd (never (cc))
 
 -- ---- by the sizes with it
 
 module _ (j : Kind) (p : Line) (s : PerKind) where
-  pub grown-bad : line_size p ≡ Unwritable → grown_by j p s ≡ grown.Unwritable
+  pub grown-bad : line_size p ≡ None → grown_by j p s ≡ None
   unfolding grown_by
   grown-bad e = cond-is (line_writable p) false _ _ (size-bad p e)
 
-  pub grown-is : (n : ℕ) → line_size p ≡ Is n → grown_by j p s ≡ grown.Is (plus j n s)
+  pub grown-is : (n : ℕ) → line_size p ≡ Some n → grown_by j p s ≡ Some (plus j n s)
   unfolding grown_by
-  grown-is n e = cond-is (line_writable p) true _ _ (size_is p n e).0 ∙ ap (λ n. grown.Is (plus j n s)) (size_is p n e).1
+  grown-is n e = cond-is (line_writable p) true _ _ (size_is p n e).0 ∙ ap (λ n. Some (plus j n s)) (size_is p n e).1
 
-  pub grew-bad : grown_by j p s ≡ grown.Unwritable → line_writable p ≡ false
+  pub grew-bad : grown_by j p s ≡ None → line_writable p ≡ false
   unfolding grown_by
   grew-bad e = go (line_writable p) refl e
     where
-      go : (b : Bool) → line_writable p ≡ b → cond b (grown.Is (plus j (length (line_text p)) s)) grown.Unwritable ≡ grown.Unwritable → line_writable p ≡ false
+      go : (b : Bool) → line_writable p ≡ b → cond b (Some (plus j (length (line_text p)) s)) None ≡ None → line_writable p ≡ false
       go true q e = absurd (never (cc))
       go false q e = q
 
-  pub grew-is : (t : PerKind) → grown_by j p s ≡ grown.Is t → (line_writable p ≡ true) × (plus j (length (line_text p)) s ≡ t)
+  pub grew-is : (t : PerKind) → grown_by j p s ≡ Some t → (line_writable p ≡ true) × (plus j (length (line_text p)) s ≡ t)
   unfolding grown_by
   grew-is t e = go (line_writable p) refl e
     where
-      go : (b : Bool) → line_writable p ≡ b → cond b (grown.Is (plus j (length (line_text p)) s)) grown.Unwritable ≡ grown.Is t
+      go : (b : Bool) → line_writable p ≡ b → cond b (Some (plus j (length (line_text p)) s)) None ≡ Some t
           → (line_writable p ≡ true) × (plus j (length (line_text p)) s ≡ t)
       go true q e = (q, cc)
       go false q e = absurd (never (cc))

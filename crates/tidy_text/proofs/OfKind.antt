@@ -10,7 +10,6 @@ use Rattle.format.specs.Records.{Record, header, reference, group, program, comm
 use Rattle.format.specs.Reading.{of_kind}
 use Rattle.format.specs.Tidy.{record_text, text}
 use Rattle.format.specs.declared.Kind.{Kind}
-use Rattle.format.specs.declared.Kind.TheVariants.{Header, ReferenceSequence, ReadGroup, Program, Comment}
 use Rattle.accepted.specs.Sound.{kind}
 use Rattle.accepted.specs.Spelled as sp
 use Rattle.accepted.specs.Spelled.{AcceptedLine, kind₀, kind₁}

@@ -22,7 +22,7 @@ use Rattle.tidy_text.specs.Accepted.{with_record}
 use Rattle.tidy_text.specs.Kinds.{kind_text}
 use Rattle.tidy_text.specs.Sizes.{grown_by}
 use Rattle.tidy_text.specs.Placed.{with_parts, parts, Apart}
-use Rattle.tidy_text.specs.declared.Grown.TheVariants as grown
+use Rattle.std.specs.Prelude.{Some, None}
 use Rattle.tidy_text.proofs.OfKind.{only, line-kind}
 use Rattle.tidy_text.proofs.Names.{grew-bad, grew-is, cond-is}
 use Rattle.tidy_text.proofs.Parts.{split-turn}
@@ -109,11 +109,11 @@ sift-onto marks k (read r) rs q s e = rw e (go (eqb (code r) 4))
 module _ (b : Bool) (j : Kind) (c : PerKind) where
   pub grown-stays : (l : Line) → b ≡ true → grown_if b j l c ≡ grown_by j l c
   unfolding grown_if
-  grown-stays l e = cond-is b true (grown_by j l c) (grown.Is c) e
+  grown-stays l e = cond-is b true (grown_by j l c) (Some c) e
 
-  pub grown-goes : (l : Line) → b ≡ false → grown_if b j l c ≡ grown.Is c
+  pub grown-goes : (l : Line) → b ≡ false → grown_if b j l c ≡ Some c
   unfolding grown_if
-  grown-goes l e = cond-is b false (grown_by j l c) (grown.Is c) e
+  grown-goes l e = cond-is b false (grown_by j l c) (Some c) e
 
   pub places-stay : (xs : List ℕ) → b ≡ true → places_if b j xs c ≡ plus j (length xs) c
   unfolding places_if
@@ -187,24 +187,24 @@ module _ (marks : List Bool) (k : ℕ) (j : Kind) (l : Line) (rs : List Record) 
 
   -- ---- measured
 
-  pub grow-bad : (c : PerKind) → grown_if s.stays j l c ≡ grown.Unwritable → line_writable l ≡ false
+  pub grow-bad : (c : PerKind) → grown_if s.stays j l c ≡ None → line_writable l ≡ false
   unfolding grown_if
   grow-bad c f = go s.stays f
     where
-      go : (b : Bool) → cond b (grown_by j l c) (grown.Is c) ≡ grown.Unwritable → line_writable l ≡ false
+      go : (b : Bool) → cond b (grown_by j l c) (Some c) ≡ None → line_writable l ≡ false
       go true f = grew-bad j l c f
       go false f = absurd (never (cc))
 
-  pub grow-is : (c t : PerKind) → grown_if s.stays j l c ≡ grown.Is t
+  pub grow-is : (c t : PerKind) → grown_if s.stays j l c ≡ Some t
       → (line_writable l ≡ true) × ((i : Kind) → get i t + size i (sifted p s.next rs) ≡ get i c + size i (sifted p k (with_record l rs)))
   unfolding grown_if
   grow-is c t f = split s.stays
-      (λ h. let g = grew-is j l c t (sym (cond-is s.stays true (grown_by j l c) (grown.Is c) h) ∙ f) in
+      (λ h. let g = grew-is j l c t (sym (cond-is s.stays true (grown_by j l c) (Some c) h) ∙ f) in
       (g.0, λ i. ap (λ x. get i x + size i (sifted p s.next rs)) (sym g.1) ∙ sym (size-turn j i l (sifted p s.next rs) c (kinds i)) ∙ ap (λ xs. get i c + size i xs) (sym (stays-is h))))
-      (λ h. let g : c ≡ t = one-is c t (sym (cond-is s.stays false (grown_by j l c) (grown.Is c) h) ∙ f) in
+      (λ h. let g : c ≡ t = one-is c t (sym (cond-is s.stays false (grown_by j l c) (Some c) h) ∙ f) in
       (stays-or-writes marks k l q s e h, λ i. ap₂ (λ x xs. get i x + size i xs) (sym g) (sym (goes-is h))))
     where
-      one-is : (c t : PerKind) → grown.Is c ≡ grown.Is t → c ≡ t
+      one-is : (c t : PerKind) → Some c ≡ Some t → c ≡ t
       one-is c t e = cc
 
   pub stay-size : s.stays ≡ true → length (line_text l) ≤ size j (sifted p k (with_record l rs))

@@ -6,7 +6,7 @@ use mathlib.Core.List.{List, [], ◌∷◌, ◌++◌, append_assoc}
 use native.Mathlib.Omega.{arith}
 use lib.ListN.{length, length-append}
 use Rattle.format.specs.Records.{Record, Line, refused_line, read, line}
-use Rattle.format.specs.Reading.{of_kind, read_text}
+use Rattle.format.specs.Reading.{of_kind}
 use Rattle.format.specs.Tidy.{record_text, text, in_order, tidy}
 use Rattle.format.specs.declared.Kind.{Kind}
 use Rattle.format.specs.declared.Kind.TheVariants.{Header, ReferenceSequence, ReadGroup, Program, Comment}

@@ -1,26 +1,25 @@
 -- The records of an accepted text, from reading it and line by line, and the names that can't be written.
-use Rattle.std.specs.Prelude.{ℕ, ◌≡◌, Bool, true, false, ◌&&◌, List, [], ◌∷◌, drop}
+use Rattle.std.specs.Prelude.{ℕ, ◌≡◌, Bool, true, ◌&&◌, List, Result, Ok, Err, [], ◌∷◌, drop}
 use Rattle.std.proofs.Math.Option.{Option, none, some}
 use Rattle.format.specs.Lines.{Piece, lines_from}
 use Rattle.format.specs.Records.{Record, Line, refused_line, read, line}
 use Rattle.format.specs.Calls.{Answer, refused, yes, writing}
 use Rattle.accepted.specs.Read.{is_read}
 use Rattle.tidy_sizes.specs.declared.PerKind.{PerKind}
-use Rattle.tidy_text.specs.declared.Measured.{Measured}
-use Rattle.tidy_text.specs.declared.Measured.TheVariants as measured
+use Rattle.format.specs.declared.LineNo.{LineNo}
 
 -- the sizes of the tidy text, or the line of the first SQ whose name can't be written
-unfoldable pub measured_of : Option ℕ → PerKind → Measured
-measured_of none n = measured.Is n
-measured_of (some l) n = measured.Unwritable (record { 0 = l })
+unfoldable pub measured_of : Option ℕ → PerKind → Result PerKind LineNo
+measured_of none n = Ok n
+measured_of (some l) n = Err (record { 0 = l })
 
 -- what each answer says: 24 on the line of that SQ, or the sizes
-unfoldable pub measured_answer : Measured → Answer PerKind
-measured_answer (measured.Unwritable l) = refused 24 l.0
-measured_answer (measured.Is n) = yes n
+unfoldable pub measured_answer : Result PerKind LineNo → Answer PerKind
+measured_answer (Err l) = refused 24 l.0
+measured_answer (Ok n) = yes n
 
 -- `r` answers with the sizes of a text, and `o` is the line of its first SQ that can't be written: if `r` is a refusal, writing is refused with it
-abbrev pub MeasuredTold : Option ℕ → Measured → Type 0
+abbrev pub MeasuredTold : Option ℕ → Result PerKind LineNo → Type 0
 MeasuredTold o r = (room n l : ℕ) (t : List ℕ) → measured_answer r ≡ refused n l → writing room o t ≡ refused n l
 
 -- ---- line by line

@@ -1,13 +1,11 @@
 -- The records of a text without the programs whose mark is false, and what happens to a line according to its kind.
-use Rattle.std.specs.Prelude.{ℕ, ◌+◌, Bool, true, false, cond, List, [], ◌∷◌, length, get_or, eqb}
+use Rattle.std.specs.Prelude.{ℕ, ◌+◌, Bool, true, cond, List, Option, Some, [], ◌∷◌, length, get_or, eqb}
 use Rattle.format.specs.Records.{Record, code, Line}
 use Rattle.format.specs.declared.Kind.{Kind}
 use Rattle.byte_slices.specs.Over.{over}
 use Rattle.tidy_sizes.specs.Numbers.{get, plus}
 use Rattle.tidy_sizes.specs.declared.PerKind.{PerKind}
 use Rattle.tidy_text.specs.Sizes.{grown_by}
-use Rattle.tidy_text.specs.declared.Grown.{Grown}
-use Rattle.tidy_text.specs.declared.Grown.TheVariants as grown
 use Rattle.tidy_text.specs.declared.Stay.{Stay}
 
 -- is the program `k` marked? A program after the last mark is
@@ -33,9 +31,9 @@ abbrev pub is_program_line : List ℕ → Bool
 is_program_line s = eqb (get_or s 1 0) 80
 
 -- the sizes with a line of the kind `j`, if it stays
-unfoldable pub grown_if : Bool → Kind → Line → PerKind → Grown
+unfoldable pub grown_if : Bool → Kind → Line → PerKind → Option PerKind
 unfolding grown_by
-grown_if stays j l s = cond stays (grown_by j l s) (grown.Is s)
+grown_if stays j l s = cond stays (grown_by j l s) (Some s)
 
 -- the places after a text of the kind `j`, and what is written, if the line stays
 unfoldable pub places_if : Bool → Kind → List ℕ → PerKind → PerKind

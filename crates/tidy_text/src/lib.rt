@@ -18,22 +18,7 @@ ghost use Rattle.tidy_text.specs.Placed.{with_parts, parts, Apart, with_gap};
 ghost use Rattle.tidy_text.specs.Sifted.{is_marked, sifted, stay_by, is_program_line, grown_if, places_if, written_if};
 
 use format::LineNo;
-use tidy_line::Size;
 use tidy_sizes::PerKind;
-
-// How many bytes each kind takes in the tidy text, or the line of the first SQ whose name can't be written.
-#[derive(Clone, Copy)]
-pub enum Measured {
-    Unwritable(LineNo),
-    Is(PerKind),
-}
-
-// The sizes of the lines so far, or that a name can't be written.
-#[derive(Clone, Copy)]
-pub enum Grown {
-    Unwritable,
-    Is(PerKind),
-}
 
 // Whether the record of a line stays, and the ordinal of the next program.
 #[derive(Clone, Copy)]
@@ -65,24 +50,21 @@ fn stay_of(src: &[u8], marks: &[bool], k: usize) -> Stay
 }
 
 // The sizes with one more accepted line, if its record stays and can be written.
-fn with_line_if(sizes: PerKind, src: &[u8], at: usize, strict: bool, stays: bool) -> Grown
+fn with_line_if(sizes: PerKind, src: &[u8], at: usize, strict: bool, stays: bool) -> Option<PerKind>
     requires src_value { is_read (line strict (record { at = at; bytes = src.now })) ≡ true }
     requires src_bound { at + length src.now ≤ 16777216 }
     requires src_bound_2 { stays ≡ true → get (line_kind src.now) sizes + length (tidy_line strict at src.now) ≤ 18446744073709551615 }
     ensures { result ≡ grown_if stays (line_kind src.now) (line strict (record { at = at; bytes = src.now })) sizes }
 {
     if !stays {
-        return Grown::Is(sizes);
+        return Some(sizes);
     }
-    let size = tidy_line::line_size(src, at, strict);
-    let Size::Is(n) = size else {
-        return Grown::Unwritable;
-    };
-    Grown::Is(sizes.plus(accepted_line::kind_of(src), n))
+    let size = tidy_line::line_size(src, at, strict)?;
+    Some(sizes.plus(accepted_line::kind_of(src), size))
 }
 
 // The same for a line that stays.
-pub fn with_line(sizes: PerKind, src: &[u8], at: usize, strict: bool) -> Grown
+pub fn with_line(sizes: PerKind, src: &[u8], at: usize, strict: bool) -> Option<PerKind>
     requires src_value { is_read (line strict (record { at = at; bytes = src.now })) ≡ true }
     requires src_bound { at + length src.now ≤ 16777216 }
     requires src_bound_2 { get (line_kind src.now) sizes + length (tidy_line strict at src.now) ≤ 18446744073709551615 }
@@ -93,7 +75,7 @@ pub fn with_line(sizes: PerKind, src: &[u8], at: usize, strict: bool) -> Grown
 
 // How many bytes the records of each kind that stay have in the tidy text, or the line of the first SQ whose name can't be written, in one
 // pass over an accepted text. `strict` is the rule for repeated tags that its lines are read by.
-pub fn measure_marked(text: &[u8], strict: bool, marks: &[bool]) -> Measured
+pub fn measure_marked(text: &[u8], strict: bool, marks: &[bool]) -> Result<PerKind, LineNo>
     requires text_value { is_accepted (read_text text.now) ≡ true }
     requires reads_by { ReadsBy strict text.now }
     ensures is { result ≡ measured_of (unwritable 0 (records_of text.now))
@@ -108,19 +90,19 @@ pub fn measure_marked(text: &[u8], strict: bool, marks: &[bool]) -> Measured
         let cut = byte_slices::first_line(&text[at..]);
         let s = stay_of(&text[at..at + cut.len], marks, k);
         let grown = with_line_if(sizes, &text[at..at + cut.len], at, strict, s.stays);
-        let Grown::Is(next) = grown else {
-            return Measured::Unwritable(LineNo(l));
+        let Some(next) = grown else {
+            return Err(LineNo(l));
         };
         l += 1;
         k = s.next;
         sizes = next;
         at += cut.next;
     }
-    Measured::Is(sizes)
+    Ok(sizes)
 }
 
 // How many bytes the records of each kind take in the tidy text, or the line of the first SQ whose name can't be written.
-pub fn measure(text: &[u8], strict: bool) -> Measured
+pub fn measure(text: &[u8], strict: bool) -> Result<PerKind, LineNo>
     requires text_value { is_accepted (read_text text.now) ≡ true }
     requires reads_by { ReadsBy strict text.now }
     ensures is { result ≡ measured_of (unwritable 0 (records_of text.now)) (sizes_of (records_of text.now)) }

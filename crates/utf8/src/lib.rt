@@ -25,37 +25,17 @@ impl Pending {
     fn first(b: u8) -> Self
         ensures { result ≡ pending_of (due b forms) }
     {
-        if b < 32 {
-            return Pending::new(1, 1, 0);
+        match b {
+            32..=126 => Pending::new(0, 128, 191),
+            194..=223 => Pending::new(1, 128, 191),
+            224 => Pending::new(2, 160, 191),
+            237 => Pending::new(2, 128, 159),
+            225..=239 => Pending::new(2, 128, 191),
+            240 => Pending::new(3, 144, 191),
+            241..=243 => Pending::new(3, 128, 191),
+            244 => Pending::new(3, 128, 143),
+            _ => Pending::new(1, 1, 0),
         }
-        if b < 127 {
-            return Pending::new(0, 128, 191);
-        }
-        if b < 194 {
-            return Pending::new(1, 1, 0);
-        }
-        if b < 224 {
-            return Pending::new(1, 128, 191);
-        }
-        if b == 224 {
-            return Pending::new(2, 160, 191);
-        }
-        if b == 237 {
-            return Pending::new(2, 128, 159);
-        }
-        if b < 240 {
-            return Pending::new(2, 128, 191);
-        }
-        if b == 240 {
-            return Pending::new(3, 144, 191);
-        }
-        if b < 244 {
-            return Pending::new(3, 128, 191);
-        }
-        if b == 244 {
-            return Pending::new(3, 128, 143);
-        }
-        Pending::new(1, 1, 0)
     }
 
     // What is still needed after the byte `b`: the first byte of a character, or the next byte of the current one.
@@ -65,10 +45,7 @@ impl Pending {
         if self.left == 0 {
             return Pending::first(b);
         }
-        if b < self.lo {
-            return Pending::new(1, 1, 0);
-        }
-        if self.hi < b {
+        if b < self.lo || self.hi < b {
             return Pending::new(1, 1, 0);
         }
         Pending::new(self.left - 1, 128, 191)
@@ -80,10 +57,8 @@ pub fn is_whole(s: &[u8]) -> bool
     ensures { result ≡ characters [] s.now }
 {
     let mut pending = Pending::new(0, 128, 191);
-    let mut i: usize = 0;
-    while i < s.len() {
-        pending = pending.with(s[i]);
-        i += 1;
+    for b in s {
+        pending = pending.with(*b);
     }
     pending.left < 1
 }

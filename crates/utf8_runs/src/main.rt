@@ -8,8 +8,6 @@
 
 ghost use Rattle.std.specs.Prelude.{◌≤◌, length};
 
-use read::CountAnswer;
-
 // The number of the standard output.
 const STDOUT_FILENO: i32 = 1;
 
@@ -22,8 +20,8 @@ fn ask(value: &[u8]) -> u8
     byte_slices::put_bytes(&mut text, 0, b"@SQ\tSN:s\tLN:1\tDS:");
     byte_slices::put_bytes(&mut text, 17, value);
     match read::read(&text[..17 + value.len()], &mut kept) {
-        CountAnswer::Refused(n, _) => n,
-        CountAnswer::Count(_) => 0,
+        Err(refusal) => refusal.number,
+        Ok(_) => 0,
     }
 }
 
@@ -48,9 +46,7 @@ fn print_run(run: u64, answer: u8) {
 fn seconds(first: u8) {
     let mut answer = ask_two(first, 0);
     let mut run: u64 = 1;
-    let mut second: u8 = 0;
-    while second < 255 {
-        second += 1;
+    for second in 1..=255u8 {
         let next = ask_two(first, second);
         if next != answer {
             print_run(run, answer);
@@ -71,10 +67,7 @@ fn row(first: u8) {
 }
 
 fn rows() {
-    row(0);
-    let mut first: u8 = 0;
-    while first < 255 {
-        first += 1;
+    for first in 0..=255u8 {
         row(first);
     }
 }

@@ -9,7 +9,7 @@ use native.Mathlib.Nat.{add_assoc}
 use lib.ListN.{length, take, drop, get_or, set, length-set, length-append, length-drop, take-append-drop}
 use lib.Seq.{get_or-set_same, get_or-set_other, drop-drop, length-take-le}
 use lib.Dec.{eqb}
-use borrow.Author.Tests.{eqb-true, eqb-false, eq-eqb, ne_eqb, not-true, not-false}
+use borrow.Author.Tests.{eqb-true, eq-eqb, ne_eqb}
 use Rattle.format.specs.Bytes.{any}
 use Rattle.format.specs.Lines.{Piece}
 use Rattle.format.specs.Fields.{Field, is_tag, tagged, later, last_of}
@@ -22,10 +22,10 @@ use Rattle.lists.proofs.Bools.{never, or_left, or_right, split}
 use Rattle.accepted.proofs.Tags.{later-assoc}
 use Rattle.accepted_line.specs.Run.{fields_of, Runs, fields_to, fields_from, AtField}
 use Rattle.accepted_line.specs.Next.{is_first, value_of_piece, or_value, no_value, last_in, value_at, kept_at, field_length}
-use Rattle.accepted_line.specs.Tables.{field_number, HasTag, marked, noted, Blank, Noted}
+use Rattle.accepted_line.specs.Tables.{field_number, HasTag, marked, noted, Noted}
 use Rattle.record.specs.declared.Stretch.{Stretch}
 use Rattle.accepted_line.proofs.fields.Runs.{bytes_of, runs_append}
-use Rattle.accepted_line.proofs.fields.Here.{Here, here, Found, found}
+use Rattle.accepted_line.proofs.fields.Here.{Here, here}
 use Rattle.accepted_line.proofs.fields.NextField.{first-here, last-same, last-other, own}
 use Rattle.accepted_line.proofs.fields.Spread.{same_number}
 

@@ -1,6 +1,8 @@
 -- `accepted_line::find_keys` meets its contract: one search for each key of the kind.
 use mathlib.Core.Path.{◌≡◌, refl, sym, ap, ap₂, ◌∙◌}
 use mathlib.Core.Bool.{true}
+use mathlib.Core.Logic.{⊎_elim}
+use Rattle.format.specs.declared.Kind.{Kind}
 use Rattle.format.specs.Bytes.{between, letter, digit}
 use Rattle.format.specs.Fields.{is_tag}
 use Rattle.accepted_line.specs.Run.{fields_from}
@@ -53,13 +55,6 @@ find_value-requires-in-ReadGroup c = record {
   line_bound = c.requires.src_bound;
 }
 
-pub find_value-requires-in-Program : goal.find_value-requires-in-Program
-find_value-requires-in-Program c = record {
-  walkable = c.requires.walkable;
-  b_value = id;
-  line_bound = c.requires.src_bound;
-}
-
 pub returns-in-Header : goal.returns-in-Header
 unfolding keys_in keys_from last_key last_number last_in or_value
 returns-in-Header c =
@@ -76,13 +71,9 @@ pub returns-in-ReadGroup : goal.returns-in-ReadGroup
 unfolding keys_in keys_from last_key last_number last_in or_value
 returns-in-ReadGroup c =
     let a = c.args in
-    ap (λ v. record { key = v; number = no_value }) c.find_value-in-ReadGroup.ensures ∙ sym (ap (λ k. keys_in k (fields_from a.at a.src.now 3)) c.in-ReadGroup.is)
-
-pub returns-in-Program : goal.returns-in-Program
-unfolding keys_in keys_from last_key last_number last_in or_value
-returns-in-Program c =
-    let a = c.args in
-    ap (λ v. record { key = v; number = no_value }) c.find_value-in-Program.ensures ∙ sym (ap (λ k. keys_in k (fields_from a.at a.src.now 3)) c.in-Program.is)
+    let among = λ (k : Kind). keys_in k (fields_from a.at a.src.now 3) in
+    ap (λ v. record { key = v; number = no_value }) c.find_value-in-ReadGroup.ensures
+    ∙ ⊎_elim (λ e. sym (ap among e)) (λ e. sym (ap among e)) c.in-ReadGroup.is
 
 pub returns-in-Comment : goal.returns-in-Comment
 unfolding keys_in keys_from last_key last_number or_value

@@ -1,5 +1,4 @@
 -- `accepted_line::head_of` meets its contract: an arm for each kind.
-use Prim.Native.Nat.{◌-◌}
 use mathlib.Core.Path.{◌≡◌, sym, ap, subst, ◌∙◌}
 use mathlib.Core.Bool.{false}
 use Rattle.format.specs.Fields.{last_of}

@@ -19,15 +19,15 @@ use Rattle.accepted_line.proofs.Finds.{OfHeader, Held, held, value-within, value
 use Rattle.format.specs.Version.{version}
 use Rattle.format.specs.declared.Version.{Version}
 use Rattle.field.specs.Spelled.{parsed_version_of}
-use Rattle.field.specs.declared.version.ParsedVersion.TheVariants.{Is, Invalid}
+use Rattle.std.specs.Prelude.{Some, None}
 use Rattle.accepted_line.proofs.header_of.Goals as goal
 use Rattle.accepted_line.proofs.header_of.Goals.{After-parse_version, Start}
 
-version-is : (v w : Version) → parsed_version_of (some v) ≡ Is w → v ≡ w
+version-is : (v w : Version) → parsed_version_of (some v) ≡ Some w → v ≡ w
 unfolding parsed_version_of
 version-is v w e = cc
 
-version-none : (v : Version) → parsed_version_of (some v) ≡ Invalid → ⊥
+version-none : (v : Version) → parsed_version_of (some v) ≡ None → ⊥
 unfolding parsed_version_of
 version-none v e = never (cc)
 
@@ -61,11 +61,11 @@ overflow_add-from c = omega (arith, within (goal.at.overflow_add-from c).Start, 
 pub slice_bounds-parse_version-end : goal.slice_bounds-parse_version-end
 slice_bounds-parse_version-end c = omega (arith, within (goal.at.slice_bounds-parse_version-end c).Start)
 
-pub returns-in-Is : goal.returns-in-Is
-returns-in-Is c =
-    let k = kept (goal.at.returns-in-Is c).Start in
-    sym (k.is ∙ ap (λ v. head.Header v 0) (version-is k.number c.in-Is.v (sym (spelled (goal.at.returns-in-Is c).After-parse_version) ∙ c.in-Is.is)))
+pub returns-in-Some : goal.returns-in-Some
+returns-in-Some c =
+    let k = kept (goal.at.returns-in-Some c).Start in
+    sym (k.is ∙ ap (λ v. head.Header v 0) (version-is k.number c.in-Some.v (sym (spelled (goal.at.returns-in-Some c).After-parse_version) ∙ c.in-Some.is)))
 
-pub returns-in-Invalid : goal.returns-in-Invalid
-returns-in-Invalid c =
-    absurd (version-none (kept (goal.at.returns-in-Invalid c).Start).number (sym (spelled (goal.at.returns-in-Invalid c).After-parse_version) ∙ c.in-Invalid.is))
+pub returns-in-None : goal.returns-in-None
+returns-in-None c =
+    absurd (version-none (kept (goal.at.returns-in-None c).Start).number (sym (spelled (goal.at.returns-in-None c).After-parse_version) ∙ c.in-None.is))

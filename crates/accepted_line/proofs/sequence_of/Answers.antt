@@ -1,5 +1,5 @@
 -- `accepted_line::sequence_of` meets its contract: SN is in the line, and LN spells the number.
-use Prim.Native.Nat.{ℕ, ◌+◌, ◌-◌, ◌≤◌, ◌^◌}
+use Prim.Native.Nat.{◌+◌, ◌-◌, ◌≤◌, ◌^◌}
 use mathlib.Core.Path.{◌≡◌, sym, ap, ap₂, ◌∙◌}
 use mathlib.Core.Bool.{false}
 use native.Mathlib.Omega.{arith}
@@ -16,13 +16,15 @@ use Rattle.accepted_line.specs.Found.{uncounted}
 use Rattle.accepted_line.specs.Keys.{last_key, last_number, keys_from, keys_in}
 use Rattle.accepted_line.proofs.Finds.{OfReference, Held, held, found-place, value-within, value-bytes, front-digits}
 use Rattle.format.specs.Decimal.{worth}
-use Rattle.decimal.specs.Number.{number_at_front}
-use Rattle.decimal.specs.declared.Number.TheVariants.{Is}
+use Rattle.std.specs.Prelude.{Result, Ok}
+use Rattle.decimal.specs.Number.{number_of, number_at_front}
+use Rattle.decimal.specs.declared.Number.{Number}
+use Rattle.decimal.specs.declared.NumberError.{NumberError}
 use Rattle.accepted_line.proofs.sequence_of.Goals as goal
 use Rattle.accepted_line.proofs.sequence_of.Goals.{After-read_u64, Start}
 
-number_is : (n k m j : ℕ) → Is n k ≡ Is m j → n ≡ m
-number_is n k m j e = cc
+number_is : (n m : Number) → ◌≡◌ {A = Result Number NumberError} (Ok n) (Ok m) → n.value ≡ m.value
+number_is n m e = let i : n ≡ m = cc in ap (λ k. k.value) i
 
 kept : (s : Start) → (let a = s.args in OfReference a.at a.src.now (uncounted (head_of (line false (record { at = a.at; bytes = a.src.now })))))
 unfolding Held
@@ -42,7 +44,7 @@ within : (s : Start) → (let a = s.args in let v = s.args.keys.number in (a.at 
 within s = let a = s.args in value-within a.at a.src.now 76 78 (kept s).size (kept s).has-size a.keys.number (number s)
 
 -- and spells the number
-told : (c : After-read_u64) → (let z = (kept (goal.at.After-read_u64 c).Start).size.bytes in c.read_u64.result ≡ Is (worth z) (length z))
+told : (c : After-read_u64) → (let z = (kept (goal.at.After-read_u64 c).Start).size.bytes in c.read_u64.result ≡ Ok (number_of (worth z) (length z)))
 told c =
     let a = c.args in
     let k = kept (goal.at.After-read_u64 c).Start in
@@ -59,18 +61,14 @@ overflow_add-from c = omega (arith, within (goal.at.overflow_add-from c).Start, 
 pub slice_bounds-read_u64-end : goal.slice_bounds-read_u64-end
 slice_bounds-read_u64-end c = omega (arith, within (goal.at.slice_bounds-read_u64-end c).Start)
 
-pub returns-in-Is : goal.returns-in-Is
-returns-in-Is c =
+pub returns-in-Ok : goal.returns-in-Ok
+returns-in-Ok c =
     let a = c.args in
-    let k = kept (goal.at.returns-in-Is c).Start in
-    ap₂ (λ p n. head.ReferenceSequence p n 0) (found-place a.at a.src.now 83 78 k.name k.has-name a.keys.key (name (goal.at.returns-in-Is c).Start))
-    (sym (number_is (worth k.size.bytes) (length k.size.bytes) c.in-Is.n c.in-Is.field-1 (sym (told (goal.at.returns-in-Is c).After-read_u64) ∙ c.in-Is.is)))
+    let k = kept (goal.at.returns-in-Ok c).Start in
+    ap₂ (λ p n. head.ReferenceSequence p n 0) (found-place a.at a.src.now 83 78 k.name k.has-name a.keys.key (name (goal.at.returns-in-Ok c).Start))
+    (sym (number_is (number_of (worth k.size.bytes) (length k.size.bytes)) c.in-Ok.n (sym (told (goal.at.returns-in-Ok c).After-read_u64) ∙ c.in-Ok.is)))
     ∙ sym k.is
 
-pub returns-in-NoDigit : goal.returns-in-NoDigit
-returns-in-NoDigit c =
-    absurd (never (let e = sym (told (goal.at.returns-in-NoDigit c).After-read_u64) ∙ c.in-NoDigit.is in cc))
-
-pub returns-in-TooLarge : goal.returns-in-TooLarge
-returns-in-TooLarge c =
-    absurd (never (let e = sym (told (goal.at.returns-in-TooLarge c).After-read_u64) ∙ c.in-TooLarge.is in cc))
+pub returns-in-Err : goal.returns-in-Err
+returns-in-Err c =
+    absurd (never (let e = sym (told (goal.at.returns-in-Err c).After-read_u64) ∙ c.in-Err.is in cc))

@@ -122,9 +122,9 @@ pub returns-then-is_taken : goal.returns-then-is_taken
 returns-then-is_taken c =
     let a = c.args in
     let room = length a.out.now in
-    let told = refused-answer (adding_on (records (goal.at.returns-then-is_taken c).Start) a.prefix.now (fields_of (goal.at.returns-then-is_taken c).Start) room) a.out.now 18 (record { 0 = 0 })
+    let told = refused-answer (adding_on (records (goal.at.returns-then-is_taken c).Start) a.prefix.now (fields_of (goal.at.returns-then-is_taken c).Start) room) a.out.now (record { number = 18; line = record { 0 = 0 } })
     (on-used (records (goal.at.returns-then-is_taken c).Start) a.prefix.now (fields_of (goal.at.returns-then-is_taken c).Start) room (sym (used-is (goal.at.returns-then-is_taken c).After-is_taken) ∙ c.if-is_taken.true)) in
-    record { answer = told.0; wrote = told.1 }
+    record { answer = rw c.of_text.ensures told.0; wrote = told.1 }
 
 pub overflow_add-count : goal.overflow_add-count
 overflow_add-count c =
@@ -134,9 +134,9 @@ pub returns-then-count-new_count-gt1024 : goal.returns-then-count-new_count-gt10
 returns-then-count-new_count-gt1024 c =
     let a = c.args in
     let room = length a.out.now in
-    let told = refused-answer (adding_on (records (goal.at.returns-then-count-new_count-gt1024 c).Start) a.prefix.now (fields_of (goal.at.returns-then-count-new_count-gt1024 c).Start) room) a.out.now 19 (record { 0 = 0 })
+    let told = refused-answer (adding_on (records (goal.at.returns-then-count-new_count-gt1024 c).Start) a.prefix.now (fields_of (goal.at.returns-then-count-new_count-gt1024 c).Start) room) a.out.now (record { number = 19; line = record { 0 = 0 } })
     (on-many (records (goal.at.returns-then-count-new_count-gt1024 c).Start) a.prefix.now (fields_of (goal.at.returns-then-count-new_count-gt1024 c).Start) room (sym (used-is (goal.at.returns-then-count-new_count-gt1024 c).After-is_taken) ∙ c.if-is_taken.false) (omega (arith, c.if-count-new_count-gt1024.true, new_is (goal.at.returns-then-count-new_count-gt1024 c).After-new_count, count-are (goal.at.returns-then-count-new_count-gt1024 c).Start))) in
-    record { answer = told.0; wrote = told.1 }
+    record { answer = rw c.of_text-then-count-new_count-gt1024.ensures told.0; wrote = told.1 }
 
 pub write_added-requires : goal.write_added-requires
 write_added-requires c = record {

@@ -1,7 +1,6 @@
 -- `add::first_joined` meets its contract.
 use mathlib.Core.Path.{refl}
 use native.Mathlib.Omega.{arith}
-use borrow.Author.Tests.{not-true, not-false}
 use Rattle.add.proofs.first_joined.Goals as goal
 
 pub returns-then-not-alone : goal.returns-then-not-alone

@@ -4,6 +4,7 @@ use mathlib.Core.Path.{◌≡◌, sym, ap, subst, ◌∙◌}
 use mathlib.Core.List.{List}
 use native.Mathlib.Omega.{arith}
 use lib.ListN.{length}
+use Rattle.std.proofs.lemmas.Result.{err_from_is_err_and}
 use Rattle.format.specs.Records.{Record}
 use Rattle.format.specs.Tidy.{unwritable}
 use Rattle.format.specs.Calls.{writing, yes}
@@ -18,7 +19,7 @@ use Rattle.add.specs.declared.Plan.{Plan}
 use Rattle.add.proofs.Sizes.{with_size}
 use Rattle.add.proofs.Measured.{planned-refused, planned-is}
 use Rattle.add.proofs.write_added.Goals as goal
-use Rattle.add.proofs.write_added.Goals.{In-Is, Start}
+use Rattle.add.proofs.write_added.Goals.{In_ok-plan, Start}
 
 -- the records of the text, what is added, and the whole
 abbrev records : Start → List Record
@@ -38,15 +39,15 @@ abbrev sound : Start → Plan
 sound s = record { ways = s.args.ways; sizes = sizes_of (records s); more = length (new s) }
 
 -- its name can be written, and it fits
-fits : (p : In-Is)
-    → (sound (goal.at.In-Is p).Start ≡ p.in-Is.plan) × (writing (length p.args.out.now) (unwritable 0 (records (goal.at.In-Is p).Start)) (whole (goal.at.In-Is p).Start) ≡ yes (whole (goal.at.In-Is p).Start)) × (length (whole (goal.at.In-Is p).Start) ≤ 16777216)
-    × (length (whole (goal.at.In-Is p).Start) ≤ length p.args.out.now)
+fits : (p : In_ok-plan)
+    → (sound (goal.at.In_ok-plan p).Start ≡ p.in_ok-plan.plan) × (writing (length p.args.out.now) (unwritable 0 (records (goal.at.In_ok-plan p).Start)) (whole (goal.at.In_ok-plan p).Start) ≡ yes (whole (goal.at.In_ok-plan p).Start)) × (length (whole (goal.at.In_ok-plan p).Start) ≤ 16777216)
+    × (length (whole (goal.at.In_ok-plan p).Start) ≤ length p.args.out.now)
 fits p =
-    planned-is (sound (goal.at.In-Is p).Start) p.in-Is.plan (length p.args.out.now) (unwritable 0 (records (goal.at.In-Is p).Start)) (whole (goal.at.In-Is p).Start) (sym p.measure_all.ensures ∙ p.in-Is.is)
+    planned-is (sound (goal.at.In_ok-plan p).Start) p.in_ok-plan.plan (length p.args.out.now) (unwritable 0 (records (goal.at.In_ok-plan p).Start)) (whole (goal.at.In_ok-plan p).Start) (sym p.measure_all.ensures ∙ p.in_ok-plan.was)
 
 pub put_grown_text-n-requires : goal.put_grown_text-n-requires
 put_grown_text-n-requires c =
-    let f = fits (goal.at.put_grown_text-n-requires c).In-Is in
+    let f = fits (goal.at.put_grown_text-n-requires c).In_ok-plan in
     let e = sym f.0 in
     let more = ap (λ q. q.more) e in record {
       text_value = c.requires.text_value;
@@ -57,19 +58,20 @@ put_grown_text-n-requires c =
       leaves_in_bounds = omega (arith, f.3, ap (λ q. length (with_added (records (goal.at.put_grown_text-n-requires c).Start) (new_by (goal.at.put_grown_text-n-requires c).Start q))) e);
     }
 
-pub returns-in-Refused : goal.returns-in-Refused
-returns-in-Refused c =
-    let n = c.in-Refused.n in
-    let l = c.in-Refused.line in
-    let w = writing (length c.args.out.now) (unwritable 0 (records (goal.at.returns-in-Refused c).Start)) (whole (goal.at.returns-in-Refused c).Start) in
-    let told = refused-answer w c.args.out.now n l (planned-refused (sound (goal.at.returns-in-Refused c).Start) w n l (sym c.measure_all.ensures ∙ c.in-Refused.is)) in
-    record { answer = told.0; wrote = told.1 }
+pub returns-in_err-plan : goal.returns-in_err-plan
+returns-in_err-plan c =
+    let s = (goal.at.returns-in_err-plan c).Start in
+    let r = c.in_err-plan.field-0.0 in
+    let w = writing (length c.args.out.now) (unwritable 0 (records s)) (whole s) in
+    let p = err_from_is_err_and c.from_residual.result c.from_residual.ensures.1 in
+    let told = refused-answer w c.args.out.now r (planned-refused (sound s) w r (sym c.measure_all.ensures ∙ c.in_err-plan.was)) in
+    record { answer = rw (p.1, p.2) told.0; wrote = told.1 }
 
-pub returns-in-Is : goal.returns-in-Is
-returns-in-Is c =
-    let f = fits (goal.at.returns-in-Is c).In-Is in
+pub returns : goal.returns
+returns c =
+    let f = fits (goal.at.returns c).In_ok-plan in
     let e = sym f.0 in
-    let told = written-answer (writing (length c.args.out.now) (unwritable 0 (records (goal.at.returns-in-Is c).Start)) (whole (goal.at.returns-in-Is c).Start)) c.args.out.now (whole (goal.at.returns-in-Is c).Start) c.put_grown_text-n.new.out
-    c.put_grown_text-n.result f.1 (c.put_grown_text-n.ensures.next ∙ ap (λ q. length (with_added (records (goal.at.returns-in-Is c).Start) (new_by (goal.at.returns-in-Is c).Start q))) e)
-    (c.put_grown_text-n.ensures.wrote ∙ ap (λ q. over c.args.out.now 0 (with_added (records (goal.at.returns-in-Is c).Start) (new_by (goal.at.returns-in-Is c).Start q))) e) in
+    let told = written-answer (writing (length c.args.out.now) (unwritable 0 (records (goal.at.returns c).Start)) (whole (goal.at.returns c).Start)) c.args.out.now (whole (goal.at.returns c).Start) c.put_grown_text-n.new.out
+    c.put_grown_text-n.result f.1 (c.put_grown_text-n.ensures.next ∙ ap (λ q. length (with_added (records (goal.at.returns c).Start) (new_by (goal.at.returns c).Start q))) e)
+    (c.put_grown_text-n.ensures.wrote ∙ ap (λ q. over c.args.out.now 0 (with_added (records (goal.at.returns c).Start) (new_by (goal.at.returns c).Start q))) e) in
     record { answer = told.0; wrote = told.1 }

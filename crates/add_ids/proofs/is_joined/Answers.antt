@@ -1,7 +1,6 @@
 -- `add_ids::is_joined` meets its contract: another length, another byte for the `-` and another front decide, and then what is left.
 use mathlib.Core.Path.{sym, ◌∙◌}
 use native.Mathlib.Omega.{arith}
-use borrow.Author.Tests.{not-true, not-false}
 use Rattle.add_ids.proofs.Joined.{joined-other, joined-dash, joined-front, joined-rest}
 use Rattle.add_ids.proofs.is_joined.Goals as goal
 

@@ -1,5 +1,5 @@
 -- `add_input::find_previous` meets its contract: the last PP so far, or else that of the fields which are left, stays.
-use Prim.Native.Nat.{◌+◌, ◌-◌, ◌≤◌}
+use Prim.Native.Nat.{◌+◌, ◌≤◌}
 use mathlib.Core.Path.{◌≡◌, sym, ap, ◌∙◌}
 use native.Mathlib.Omega.{arith}
 use lib.ListN.{length, drop}
@@ -38,11 +38,8 @@ overflow_add-pos-in-loop-pos-2 c = omega (arith, reach (goal.at.overflow_add-pos
 pub bounds-fields-pos-in-loop-pos : goal.bounds-fields-pos-in-loop-pos
 bounds-fields-pos-in-loop-pos c = omega (arith, reach (goal.at.bounds-fields-pos-in-loop-pos c).After-upto)
 
-pub overflow_add-last : goal.overflow_add-last
-overflow_add-last c = omega (arith, reach (goal.at.overflow_add-last c).After-upto)
-
-pub overflow_add-last-then-is_same_tag : goal.overflow_add-last-then-is_same_tag
-overflow_add-last-then-is_same_tag c = omega (arith, reach (goal.at.overflow_add-last-then-is_same_tag c).After-upto)
+pub overflow_add-at : goal.overflow_add-at
+overflow_add-at c = omega (arith, reach (goal.at.overflow_add-at c).After-upto)
 
 pub overflow_sub-last : goal.overflow_sub-last
 overflow_sub-last c = omega (arith, reach (goal.at.overflow_sub-last c).After-upto)

@@ -26,72 +26,59 @@ returns-then-shape c =
     let told = subst (Wrote a.out.now a.o c.put_program_line.new.out c.put_program_line.result) (sym (added-one (ids_at a.text.now a.ids.now) a.shape.empty a.shape.alone a.shape.linked a.prefix.now a.fields.now a.leaves.now c.if-shape.true)) (c.put_program_line.ensures.next, c.put_program_line.ensures.wrote) in
     record { next = told.0; wrote = told.1 }
 
-pub loop-i-init : goal.loop-i-init
-loop-i-init c =
+pub loop-leaf-init : goal.loop-leaf-init
+loop-leaf-init c =
     let a = c.args in
     let e = sym (added-each (ids_at a.text.now a.ids.now) a.shape.empty a.shape.alone a.shape.linked a.prefix.now a.fields.now a.leaves.now c.if-shape.false) in
-    (omega arith, ap (λ xs. a.o + length xs) e, ap (over a.out.now a.o) e, refl)
-
-pub offset_bounds-leaves-i : goal.offset_bounds-leaves-i
-offset_bounds-leaves-i c = omega arith
-
-pub bounds-leaves-i : goal.bounds-leaves-i
-bounds-leaves-i c = omega arith
+    (ap (λ xs. a.o + length xs) e, ap (over a.out.now a.o) e, refl)
 
 pub find_id-id-requires : goal.find_id-id-requires
 find_id-id-requires c = c.requires.ids_in_text
 
 -- the line of a step, and those still to come
 more : (c : After-find_id-id)
-    → let l = c.loop-i in
+    → let l = c.loop-leaf in
     let a = c.args in
     let ids = ids_at a.text.now a.ids.now in
     let xs = new_line l.first a.shape.linked a.prefix.now a.fields.now c.find_id-id.result.now in
-    let ys = new_lines ids false a.shape.linked a.prefix.now a.fields.now (drop (l.i + 1) a.leaves.now) in
-    (new_lines ids l.first a.shape.linked a.prefix.now a.fields.now (drop l.i a.leaves.now) ≡ xs ++ ys)
+    let ys = new_lines ids false a.shape.linked a.prefix.now a.fields.now (drop (l.leaf-index + 1) a.leaves.now) in
+    (new_lines ids l.first a.shape.linked a.prefix.now a.fields.now (drop l.leaf-index a.leaves.now) ≡ xs ++ ys)
     × (l.n + length xs + length ys ≡ a.o + length (added_text ids a.shape.empty a.shape.alone a.shape.linked a.prefix.now a.fields.now a.leaves.now))
 more c =
-    let l = c.loop-i in
+    let l = c.loop-leaf in
     let a = c.args in
     let ids = ids_at a.text.now a.ids.now in
     let xs = new_line l.first a.shape.linked a.prefix.now a.fields.now c.find_id-id.result.now in
-    let ys = new_lines ids false a.shape.linked a.prefix.now a.fields.now (drop (l.i + 1) a.leaves.now) in
-    let h : l.i < length a.leaves.now = omega arith in
-    let e : new_lines ids l.first a.shape.linked a.prefix.now a.fields.now (drop l.i a.leaves.now) ≡ xs ++ ys =
-    lines_more ids a.shape.linked a.prefix.now a.fields.now a.leaves.now l.first l.i h
+    let ys = new_lines ids false a.shape.linked a.prefix.now a.fields.now (drop (l.leaf-index + 1) a.leaves.now) in
+    let h : l.leaf-index < length a.leaves.now = omega arith in
+    let e : new_lines ids l.first a.shape.linked a.prefix.now a.fields.now (drop l.leaf-index a.leaves.now) ≡ xs ++ ys =
+    lines_more ids a.shape.linked a.prefix.now a.fields.now a.leaves.now l.first l.leaf-index h
     ∙ ap (λ i. new_line l.first a.shape.linked a.prefix.now a.fields.now i ++ ys) (sym c.find_id-id.ensures.value) in
-    (e, omega (arith, l.invariant.1, ap length e, length-append xs ys))
+    (e, omega (arith, l.invariant.0, ap length e, length-append xs ys))
 
 pub put_program_line-n-requires : goal.put_program_line-n-requires
-put_program_line-n-requires c = omega (arith, (more (goal.at.put_program_line-n-requires c).After-find_id-id).1, c.requires.leaves_in_bounds, c.loop-i.invariant.3)
+put_program_line-n-requires c = omega (arith, (more (goal.at.put_program_line-n-requires c).After-find_id-id).1, c.requires.leaves_in_bounds, c.loop-leaf.invariant.2)
 
-pub overflow_add-i : goal.overflow_add-i
-overflow_add-i c = omega arith
-
-pub loop-i-smaller : goal.loop-i-smaller
-loop-i-smaller c = omega arith
-
-pub loop-i-preserved : goal.loop-i-preserved
-loop-i-preserved c =
-    let l = c.loop-i in
+pub loop-leaf-preserved : goal.loop-leaf-preserved
+loop-leaf-preserved c =
+    let l = c.loop-leaf in
     let a = c.args in
-    let m = more (goal.at.loop-i-preserved c).After-find_id-id in
+    let m = more (goal.at.loop-leaf-preserved c).After-find_id-id in
     let xs = new_line l.first a.shape.linked a.prefix.now a.fields.now c.find_id-id.result.now in
-    let ys = new_lines (ids_at a.text.now a.ids.now) false a.shape.linked a.prefix.now a.fields.now (drop (l.i + 1) a.leaves.now) in (
-      omega arith,
+    let ys = new_lines (ids_at a.text.now a.ids.now) false a.shape.linked a.prefix.now a.fields.now (drop (l.leaf-index + 1) a.leaves.now) in (
       omega (arith, c.put_program_line-n.ensures.next, m.1),
-      wrote-onward l.out c.put_program_line-n.new.out l.n c.put_program_line-n.result _ xs ys m.0 (c.put_program_line-n.ensures.next, c.put_program_line-n.ensures.wrote) (omega (arith, m.1, c.requires.leaves_in_bounds, l.invariant.3)) ∙ l.invariant.2,
-      c.put_program_line-n.auto.out ∙ l.invariant.3,
+      wrote-onward l.out c.put_program_line-n.new.out l.n c.put_program_line-n.result _ xs ys m.0 (c.put_program_line-n.ensures.next, c.put_program_line-n.ensures.wrote) (omega (arith, m.1, c.requires.leaves_in_bounds, l.invariant.2)) ∙ l.invariant.1,
+      c.put_program_line-n.auto.out ∙ l.invariant.2,
     )
 
 pub shape_of-out : goal.shape_of-out
-shape_of-out c = c.loop-i.invariant.3
+shape_of-out c = c.loop-leaf.invariant.2
 
 pub returns : goal.returns
 returns c =
-    let l = c.loop-i in
+    let l = c.loop-leaf in
     let a = c.args in
-    let e = lines-done (ids_at a.text.now a.ids.now) a.shape.linked a.prefix.now a.fields.now a.leaves.now l.first l.i (omega arith) in record {
-      next = omega (arith, l.invariant.1, ap length e);
-      wrote = sym (over_none l.out l.n) ∙ ap (over l.out l.n) (sym e) ∙ l.invariant.2;
+    let e = lines-done (ids_at a.text.now a.ids.now) a.shape.linked a.prefix.now a.fields.now a.leaves.now l.first l.leaf-index (omega arith) in record {
+      next = omega (arith, l.invariant.0, ap length e);
+      wrote = sym (over_none l.out l.n) ∙ ap (over l.out l.n) (sym e) ∙ l.invariant.1;
     }

@@ -4,7 +4,6 @@ use mathlib.Core.Path.{◌≡◌, refl, sym, ap, ◌∙◌}
 use mathlib.Core.Bool.{true, false}
 use mathlib.Core.List.{◌++◌}
 use native.Mathlib.Omega.{arith}
-use borrow.Author.Tests.{not-true, not-false}
 use Rattle.format.specs.Bytes.{starts}
 use Rattle.format.specs.Binary.{magic}
 use Rattle.binary_len.specs.BinaryLen.{number_at, references_at}

@@ -2,6 +2,7 @@
 use mathlib.Core.Path.{◌≡◌, sym, ap, ◌∙◌}
 use mathlib.Core.Bool.{true}
 use lib.ListN.{length}
+use Rattle.std.proofs.lemmas.Result.{err_from_is_err_and}
 use Rattle.format.specs.Reading.{read_text}
 use Rattle.format.specs.Binary.{binary_out}
 use Rattle.accepted.specs.Read.{is_accepted}
@@ -10,36 +11,36 @@ use Rattle.read_judge.proofs.Whole.{Told, text-refused, text-accepted}
 use Rattle.read.proofs.AnswerCases.{refused-answer}
 use Rattle.binary_out.proofs.Whole.{out-refused, out-accepted}
 use Rattle.binary_out.proofs.binary_out.Goals as goal
-use Rattle.binary_out.proofs.binary_out.Goals.{In-Accepted}
+use Rattle.binary_out.proofs.binary_out.Goals.{In_ok-accepted}
 
 -- the text is accepted
-told : (c : In-Accepted) → Told c.args.text.now c.in-Accepted.field-0 c.in-Accepted.once
-told c =
-    text-accepted c.args.text.now c.in-Accepted.field-0 c.in-Accepted.once (sym c.judge.ensures ∙ c.in-Accepted.is)
+told : (c : In_ok-accepted) → Told c.args.text.now c.in_ok-accepted.accepted
+told c = text-accepted c.args.text.now c.in_ok-accepted.accepted (sym c.judge.ensures ∙ c.in_ok-accepted.was)
 
-accepted : (c : In-Accepted) → is_accepted (read_text c.args.text.now) ≡ true
+accepted : (c : In_ok-accepted) → is_accepted (read_text c.args.text.now) ≡ true
 unfolding is_accepted
 accepted c = ap is_accepted (told c).reads
 
+pub returns-in_err-accepted : goal.returns-in_err-accepted
+returns-in_err-accepted c =
+    let t = c.args.text.now in
+    let room = length c.args.out.now in
+    let r = c.in_err-accepted.field-0.0 in
+    let p = err_from_is_err_and c.from_residual.result c.from_residual.ensures.1 in
+    let told = refused-answer (binary_out t room) c.args.out.now r (out-refused t room r.number r.line.0 (text-refused t r (sym c.judge.ensures ∙ c.in_err-accepted.was))) in
+    record { answer = rw (p.1, p.2) told.0; wrote = told.1 }
+
 pub write_accepted-requires : goal.write_accepted-requires
-write_accepted-requires c = record {
-  text_value = accepted (goal.at.write_accepted-requires c).In-Accepted;
-  reads_by = (told (goal.at.write_accepted-requires c).In-Accepted).rule;
-}
+write_accepted-requires c =
+    let k = (goal.at.write_accepted-requires c).In_ok-accepted in record {
+      text_value = accepted k;
+      reads_by = (told k).rule;
+    }
 
-pub returns-in-Refused : goal.returns-in-Refused
-returns-in-Refused c =
+pub returns : goal.returns
+returns c =
     let a = c.args in
-    let room = length a.out.now in
-    let told = refused-answer (binary_out a.text.now room) a.out.now c.in-Refused.n c.in-Refused.line
-    (out-refused a.text.now room c.in-Refused.n c.in-Refused.line.0
-    (text-refused a.text.now c.in-Refused.n c.in-Refused.line (sym c.judge.ensures ∙ c.in-Refused.is))) in
-    record { answer = told.0; wrote = told.1 }
-
-pub returns-in-Accepted : goal.returns-in-Accepted
-returns-in-Accepted c =
-    let a = c.args in
-    let e = sym (out-accepted a.text.now (length a.out.now) (accepted (goal.at.returns-in-Accepted c).In-Accepted)) in record {
+    let e = sym (out-accepted a.text.now (length a.out.now) (accepted (goal.at.returns c).In_ok-accepted)) in record {
       answer = c.write_accepted.ensures.answer ∙ ap answer_of e;
       wrote = c.write_accepted.ensures.wrote ∙ ap (λ x. output_of x a.out.now) e;
     }

@@ -23,22 +23,22 @@ use Rattle.tidy.proofs.Writing.{measured-bad, measured-is}
 use Rattle.binary_out.specs.Written.{binary_of, writing_binary}
 use Rattle.binary_out.proofs.Whole.{binary-length, out-bad, out-unfit, out-fits}
 use Rattle.binary_out.proofs.write_accepted.Goals as goal
-use Rattle.binary_out.proofs.write_accepted.Goals.{After-measure_list-list, After-total-n, Else-unfit-ne0, In-Is}
+use Rattle.binary_out.proofs.write_accepted.Goals.{After-measure_list-list, After-total-n, Else-unfit-ne0, In-Ok}
 
 -- every name can be written, and the sizes are those of the tidy text
-measured : (c : In-Is)
+measured : (c : In-Ok)
     → let rs = records_of c.args.text.now in
-    (unwritable 0 rs ≡ none) × (sizes_of rs ≡ c.in-Is.sizes)
+    (unwritable 0 rs ≡ none) × (sizes_of rs ≡ c.in-Ok.sizes)
 measured c =
     let rs = records_of c.args.text.now in
-    measured-is (unwritable 0 rs) (sizes_of rs) c.in-Is.sizes (sym c.measure.ensures.is ∙ c.in-Is.is)
+    measured-is (unwritable 0 rs) (sizes_of rs) c.in-Ok.sizes (sym c.measure.ensures.is ∙ c.in-Ok.is)
 
 -- how many bytes it has
-sum : (c : In-Is) → total c.in-Is.sizes ≡ length (tidy (records_of c.args.text.now))
+sum : (c : In-Ok) → total c.in-Ok.sizes ≡ length (tidy (records_of c.args.text.now))
 sum c = ap total (sym (measured c).1) ∙ total_size (records_of c.args.text.now)
 
 counted : (c : After-total-n) → length (tidy (records_of c.args.text.now)) ≡ c.total-n.result
-counted c = sym (c.total-n.ensures ∙ sum (goal.at.After-total-n c).In-Is)
+counted c = sym (c.total-n.ensures ∙ sum (goal.at.After-total-n c).In-Ok)
 
 -- the list's size is that of the SQ list
 list-size : (c : After-measure_list-list)
@@ -73,9 +73,9 @@ pub returns-then-unfit-ne0 : goal.returns-then-unfit-ne0
 returns-then-unfit-ne0 c =
     let a = c.args in
     let room = length a.out.now in
-    let told = refused-answer (writing_binary a.text.now room) a.out.now c.fit-unfit.result (record { 0 = 0 })
-    (out-unfit a.text.now room (measured (goal.at.returns-then-unfit-ne0 c).In-Is).0 (c.total-n.result + 0) (12 + c.measure_list-list.result.bytes) c.fit-unfit.result (omega (arith, counted (goal.at.returns-then-unfit-ne0 c).After-total-n)) (whole (goal.at.returns-then-unfit-ne0 c).After-measure_list-list) c.fit-unfit.ensures c.if-unfit-ne0.true) in
-    record { answer = told.0; wrote = told.1 }
+    let told = refused-answer (writing_binary a.text.now room) a.out.now (record { number = c.fit-unfit.result; line = record { 0 = 0 } })
+    (out-unfit a.text.now room (measured (goal.at.returns-then-unfit-ne0 c).In-Ok).0 (c.total-n.result + 0) (12 + c.measure_list-list.result.bytes) c.fit-unfit.result (omega (arith, counted (goal.at.returns-then-unfit-ne0 c).After-total-n)) (whole (goal.at.returns-then-unfit-ne0 c).After-measure_list-list) c.fit-unfit.ensures c.if-unfit-ne0.true) in
+    record { answer = rw c.of_text.ensures told.0; wrote = told.1 }
 
 -- it fits
 fits : (e : Else-unfit-ne0)
@@ -90,21 +90,21 @@ pub put_binary-requires : goal.put_binary-requires
 put_binary-requires c = record {
   text_value = c.requires.text_value;
   reads_by = c.requires.reads_by;
-  sizes_value = sym (measured (goal.at.put_binary-requires c).In-Is).1;
+  sizes_value = sym (measured (goal.at.put_binary-requires c).In-Ok).1;
   n_value = sym (counted (goal.at.put_binary-requires c).After-total-n);
   count_value = (list-size (goal.at.put_binary-requires c).After-measure_list-list).0;
   n_bound = omega (arith, (fits (goal.at.put_binary-requires c).Else-unfit-ne0).0);
   text_in_bounds = omega (arith, whole (goal.at.put_binary-requires c).After-measure_list-list, (fits (goal.at.put_binary-requires c).Else-unfit-ne0).1);
 }
 
-pub returns-in-Unwritable : goal.returns-in-Unwritable
-returns-in-Unwritable c =
+pub returns-in-Err : goal.returns-in-Err
+returns-in-Err c =
     let a = c.args in
     let rs = records_of a.text.now in
     let room = length a.out.now in
-    let l = c.in-Unwritable.line in
-    let told = refused-answer (writing_binary a.text.now room) a.out.now 24 l
-    (out-bad a.text.now room l.0 (measured-bad (unwritable 0 rs) (sizes_of rs) l (sym c.measure.ensures.is ∙ c.in-Unwritable.is))) in
+    let l = c.in-Err.line in
+    let told = refused-answer (writing_binary a.text.now room) a.out.now (record { number = 24; line = l })
+    (out-bad a.text.now room l.0 (measured-bad (unwritable 0 rs) (sizes_of rs) l (sym c.measure.ensures.is ∙ c.in-Err.is))) in
     record { answer = told.0; wrote = told.1 }
 
 pub returns-else-unfit-ne0 : goal.returns-else-unfit-ne0
@@ -112,6 +112,6 @@ returns-else-unfit-ne0 c =
     let a = c.args in
     let room = length a.out.now in
     let told = written-answer (writing_binary a.text.now room) a.out.now (binary_of a.text.now) c.put_binary.new.out (c.total-n.result + (12 + c.measure_list-list.result.bytes))
-    (out-fits a.text.now room (measured (goal.at.returns-else-unfit-ne0 c).In-Is).0 (c.total-n.result + 0) (12 + c.measure_list-list.result.bytes) c.fit-unfit.result (omega (arith, counted (goal.at.returns-else-unfit-ne0 c).After-total-n)) (whole (goal.at.returns-else-unfit-ne0 c).After-measure_list-list) c.fit-unfit.ensures c.if-unfit-ne0.false)
+    (out-fits a.text.now room (measured (goal.at.returns-else-unfit-ne0 c).In-Ok).0 (c.total-n.result + 0) (12 + c.measure_list-list.result.bytes) c.fit-unfit.result (omega (arith, counted (goal.at.returns-else-unfit-ne0 c).After-total-n)) (whole (goal.at.returns-else-unfit-ne0 c).After-measure_list-list) c.fit-unfit.ensures c.if-unfit-ne0.false)
     (omega (arith, whole (goal.at.returns-else-unfit-ne0 c).After-measure_list-list)) c.put_binary.ensures in
     record { answer = told.0; wrote = told.1 }

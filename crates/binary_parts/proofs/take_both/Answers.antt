@@ -1,35 +1,46 @@
 -- `binary_parts::take_both` meets its contract: the text is there, then the count, and then as many references.
 use mathlib.Core.Path.{sym, ◌∙◌}
-use mathlib.Core.Bool.{false≢true}
-use native.Mathlib.Omega.{arith}
-use Rattle.binary_parts.specs.Parts.{parts_from}
-use Rattle.binary_parts.proofs.Both.{both-none, both-short, both_at_lem}
-use Rattle.binary_parts.proofs.Places.{both-none-at, both-short-at, both-whole-at}
+use Rattle.binary_parts.proofs.Both.{both-none, both-short, both-more, both-whole}
+use Rattle.binary_parts.proofs.Places.{both-none-at, both-short-at, both-more-at, both-whole-at}
 use Rattle.binary_parts.proofs.take_both.Goals as goal
 
-pub returns-then-count : goal.returns-then-count
-returns-then-count c =
-    let a = c.args in
-    let w = c.is_whole_list-ok in record {
-      taken = both_at_lem a.bytes.now a.at c.take_sized-text.result c.take_sized-text.ensures.taken c.if-text.true c.take_number-count.result c.take_number-count.ensures.taken c.if-count.true w.result w.ensures;
-      stands = record { text = c.take_sized-text.ensures.inside; list = c.take_number-count.ensures.inside; whole = λ q. sym w.ensures ∙ q };
-      is = both-whole-at a.bytes.now a.at c.take_sized-text.result c.take_sized-text.ensures.is c.take_number-count.result c.take_number-count.ensures.is c.if-text.true c.if-count.true w.result w.ensures;
-    }
+pub returns-in_err-text-clause-taken : goal.returns-in_err-text-clause-taken
+returns-in_err-text-clause-taken c = rw c.from_residual.ensures (both-none c.args.bytes.now c.args.at c.in_err-text.ensures.taken)
 
-pub returns-else-count : goal.returns-else-count
-unfolding parts_from
-returns-else-count c =
-    let a = c.args in record {
-      taken = both-short a.bytes.now a.at c.take_sized-text.result c.take_sized-text.ensures.taken c.if-text.true c.take_number-count.result c.take_number-count.ensures.taken c.if-count.false;
-      stands = record { text = omega arith; list = omega arith; whole = λ q. absurd (false≢true q) };
-      is = both-short-at a.bytes.now a.at c.take_sized-text.result c.take_sized-text.ensures.is c.take_number-count.result c.take_number-count.ensures.is c.if-count.false;
-    }
+pub returns-in_err-text-clause-is : goal.returns-in_err-text-clause-is
+returns-in_err-text-clause-is c = rw c.from_residual.ensures (both-none-at c.args.bytes.now c.args.at c.in_err-text.ensures.is)
 
-pub returns-else-text : goal.returns-else-text
-unfolding parts_from
-returns-else-text c =
-    let a = c.args in record {
-      taken = both-none a.bytes.now a.at c.take_sized-text.result c.take_sized-text.ensures.taken c.if-text.false;
-      stands = record { text = omega arith; list = omega arith; whole = λ q. absurd (false≢true q) };
-      is = both-none-at a.bytes.now a.at c.take_sized-text.result c.take_sized-text.ensures.is c.if-text.false;
-    }
+pub returns-in_err-count-clause-taken : goal.returns-in_err-count-clause-taken
+returns-in_err-count-clause-taken c =
+    rw c.from_residual-in_err-count.ensures (both-short c.args.bytes.now c.args.at c.in_ok-text.text c.in_ok-text.ensures.taken c.in_err-count.ensures.taken)
+
+pub returns-in_err-count-clause-is : goal.returns-in_err-count-clause-is
+returns-in_err-count-clause-is c =
+    rw c.from_residual-in_err-count.ensures (both-short-at c.args.bytes.now c.args.at c.in_ok-text.text c.in_ok-text.ensures.is c.in_err-count.ensures.is)
+
+pub returns-then-not-is_whole_list-clause-taken : goal.returns-then-not-is_whole_list-clause-taken
+returns-then-not-is_whole_list-clause-taken c =
+    both-more c.args.bytes.now c.args.at c.in_ok-text.text c.in_ok-text.ensures.taken c.in_ok-count.count c.in_ok-count.ensures.taken
+    (sym c.is_whole_list.ensures ∙ c.if-not-is_whole_list.true)
+
+pub returns-then-not-is_whole_list-clause-is : goal.returns-then-not-is_whole_list-clause-is
+returns-then-not-is_whole_list-clause-is c =
+    both-more-at c.args.bytes.now c.args.at c.in_ok-text.text c.in_ok-text.ensures.is c.in_ok-count.count c.in_ok-count.ensures.is
+    (sym c.is_whole_list.ensures ∙ c.if-not-is_whole_list.true)
+
+pub returns-clause-taken : goal.returns-clause-taken
+returns-clause-taken c =
+    both-whole c.args.bytes.now c.args.at c.in_ok-text.text c.in_ok-text.ensures.taken c.in_ok-count.count c.in_ok-count.ensures.taken
+    (sym c.is_whole_list.ensures ∙ c.if-not-is_whole_list.false)
+
+pub returns-clause-stands : goal.returns-clause-stands
+returns-clause-stands c = record {
+  text = c.in_ok-text.ensures.inside;
+  list = c.in_ok-count.ensures.inside;
+  whole = sym c.is_whole_list.ensures ∙ c.if-not-is_whole_list.false;
+}
+
+pub returns-clause-is : goal.returns-clause-is
+returns-clause-is c =
+    both-whole-at c.args.bytes.now c.args.at c.in_ok-text.text c.in_ok-text.ensures.is c.in_ok-count.count c.in_ok-count.ensures.is
+    (sym c.is_whole_list.ensures ∙ c.if-not-is_whole_list.false)

@@ -2,32 +2,28 @@
 use Rattle.binary_parts.specs.Parts.{run_from}
 use Rattle.binary_parts.proofs.Taken.{sized-none, sized-short, sized-at}
 use Rattle.binary_parts.proofs.Places.{run_none, run_short, run-whole}
-use borrow.Author.Rules.{rules}
 use Rattle.binary_parts.proofs.take_sized.Goals as goal
 
-pub returns-then-len-bytes : goal.returns-then-len-bytes
-unfolding run_from
-returns-then-len-bytes c =
-    let a = c.args in record {
-      taken = sized-at a.bytes.now a.at c.take_number-number.result c.take_number-number.ensures.taken c.if-number.true c.if-len-bytes.true;
-      inside = search rules;
-      is = run-whole a.bytes.now a.at c.take_number-number.result c.take_number-number.ensures.is c.if-number.true c.if-len-bytes.true;
-    }
+pub returns-in_err-number-clause-taken : goal.returns-in_err-number-clause-taken
+returns-in_err-number-clause-taken c = rw c.from_residual.ensures (sized-none c.args.bytes.now c.args.at c.in_err-number.ensures.taken)
 
-pub returns-else-len-bytes : goal.returns-else-len-bytes
-unfolding run_from
-returns-else-len-bytes c =
-    let a = c.args in record {
-      taken = sized-short a.bytes.now a.at c.take_number-number.result c.take_number-number.ensures.taken c.if-number.true c.if-len-bytes.false;
-      inside = search rules;
-      is = run_short a.bytes.now a.at c.take_number-number.result c.take_number-number.ensures.is c.if-len-bytes.false;
-    }
+pub returns-in_err-number-clause-is : goal.returns-in_err-number-clause-is
+returns-in_err-number-clause-is c = rw c.from_residual.ensures (run_none c.args.bytes.now c.args.at c.in_err-number.ensures.is)
 
-pub returns-else-number : goal.returns-else-number
+pub returns-then-bytes-start-clause-taken : goal.returns-then-bytes-start-clause-taken
 unfolding run_from
-returns-else-number c =
-    let a = c.args in record {
-      taken = sized-none a.bytes.now a.at c.take_number-number.result c.take_number-number.ensures.taken c.if-number.false;
-      inside = search rules;
-      is = run_none a.bytes.now a.at c.take_number-number.result c.take_number-number.ensures.is c.if-number.false;
-    }
+returns-then-bytes-start-clause-taken c =
+    sized-short c.args.bytes.now c.args.at c.in_ok-number.number c.in_ok-number.ensures.taken c.if-bytes-start.true
+
+pub returns-then-bytes-start-clause-is : goal.returns-then-bytes-start-clause-is
+returns-then-bytes-start-clause-is c =
+    run_short c.args.bytes.now c.args.at c.in_ok-number.number c.in_ok-number.ensures.is c.if-bytes-start.true
+
+pub returns-clause-taken : goal.returns-clause-taken
+unfolding run_from
+returns-clause-taken c =
+    sized-at c.args.bytes.now c.args.at c.in_ok-number.number c.in_ok-number.ensures.taken c.if-bytes-start.false
+
+pub returns-clause-is : goal.returns-clause-is
+returns-clause-is c =
+    run-whole c.args.bytes.now c.args.at c.in_ok-number.number c.in_ok-number.ensures.is c.if-bytes-start.false

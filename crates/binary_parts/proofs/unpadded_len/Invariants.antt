@@ -6,6 +6,3 @@ use Rattle.binary_parts.proofs.unpadded_len.Given as goal
 
 abbrev pub invariant-loop-n : goal.invariant-loop-n
 invariant-loop-n l = (l.n ≤ length l.run) × (unpadded l.run ≡ unpadded (take l.n l.run))
-
-abbrev pub decreases-loop-n : goal.decreases-loop-n
-decreases-loop-n l = l.n

@@ -1,10 +1,9 @@
 -- `binary_put::measure_list` meets its contract: what was counted, and the list from the current line on, make up the whole list.
-use Prim.Native.Nat.{ℕ, ◌-◌}
+use Prim.Native.Nat.{ℕ}
 use mathlib.Core.Path.{◌≡◌, refl, ap, ◌∙◌}
 use mathlib.Core.List.{[], ◌∷◌}
 use native.Mathlib.Omega.{arith}
 use lib.ListN.{length}
-use borrow.Author.Tests.{not-true, not-false}
 use Rattle.format.specs.Binary.{list_bytes}
 use Rattle.binary_references.specs.Next.{sq_from, told_reference}
 use Rattle.binary_references.proofs.Next.{told-one, told_none, told-length}
@@ -19,17 +18,17 @@ sizes e f = rw (e, f) refl
 pub loop-r-init : goal.loop-r-init
 loop-r-init c = (omega arith, omega arith, omega arith, omega arith, omega arith)
 
-pub next_reference-r-requires : goal.next_reference-r-requires
-next_reference-r-requires c = record {
+pub next_reference-requires : goal.next_reference-requires
+next_reference-requires c = record {
   text_len_bound = c.requires;
   start_in_bounds = c.loop-r.invariant.0;
 }
 
-pub returns-then-not-r : goal.returns-then-not-r
+pub returns : goal.returns
 unfolding list_size list_bytes
-returns-then-not-r c =
+returns c =
     let a = c.args in
-    let none : sq_from a.strict a.text.now c.loop-r.at ≡ [] = c.next_reference-r.ensures.list ∙ told_none a.strict a.text.now c.next_reference-r.result (not-true c.next_reference-r.result.found c.if-not-r.true) in record {
+    let none : sq_from a.strict a.text.now c.loop-r.at ≡ [] = c.in_default.ensures.list ∙ told_none a.strict a.text.now in record {
       size = sizes (omega (arith, c.loop-r.invariant.3, ap length none)) (omega (arith, c.loop-r.invariant.4, ap (λ rs. length (list_bytes rs)) none));
       small = omega (arith, c.loop-r.invariant.0, c.loop-r.invariant.2, c.requires);
     }
@@ -39,25 +38,21 @@ overflow_add-count c = omega (arith, c.loop-r.invariant.0, c.loop-r.invariant.1,
 
 pub overflow_add-bytes : goal.overflow_add-bytes
 overflow_add-bytes c =
-    omega (arith, c.loop-r.invariant.0, c.loop-r.invariant.2, c.requires, c.next_reference-r.ensures.place.name)
-
-pub overflow_add-bytes-in-loop-r : goal.overflow_add-bytes-in-loop-r
-overflow_add-bytes-in-loop-r c =
-    omega (arith, c.loop-r.invariant.0, c.loop-r.invariant.2, c.requires, c.next_reference-r.ensures.place.name)
+    omega (arith, c.loop-r.invariant.0, c.loop-r.invariant.2, c.requires, c.in-Some.ensures.place.found.name)
 
 pub loop-r-smaller : goal.loop-r-smaller
 loop-r-smaller c =
-    let r = c.next_reference-r.result in
-    let p = c.next_reference-r.ensures.place in
-    omega (arith, p.onward (not-false r.found c.if-not-r.false), p.within)
+    let r = c.in-Some.r in
+    let p = c.in-Some.ensures.place.found in
+    omega (arith, p.onward, p.within)
 
 pub loop-r-preserved : goal.loop-r-preserved
 loop-r-preserved c =
     let a = c.args in
-    let r = c.next_reference-r.result in
-    let p = c.next_reference-r.ensures.place in
-    let on = p.onward (not-false r.found c.if-not-r.false) in
-    let list : sq_from a.strict a.text.now c.loop-r.at ≡ told_reference a.text.now r ∷ sq_from a.strict a.text.now r.next = c.next_reference-r.ensures.list ∙ told-one a.strict a.text.now r (not-false r.found c.if-not-r.false) in (
+    let r = c.in-Some.r in
+    let p = c.in-Some.ensures.place.found in
+    let on = p.onward in
+    let list : sq_from a.strict a.text.now c.loop-r.at ≡ told_reference a.text.now r ∷ sq_from a.strict a.text.now r.next = c.in-Some.ensures.list ∙ told-one a.strict a.text.now r in (
       p.within,
       omega (arith, on, c.loop-r.invariant.1),
       omega (arith, on, c.loop-r.invariant.2, p.name, c.requires),

@@ -1,7 +1,6 @@
 -- `binary_references::next_reference` meets its contract: the list from the start on is the list of the lines still to come.
 use Prim.Native.Nat.{◌+◌, ◌-◌}
 use mathlib.Core.Path.{refl, sym, ap, ◌∙◌}
-use mathlib.Core.Bool.{false≢true}
 use native.Mathlib.Omega.{arith}
 use lib.ListN.{drop, length-take}
 use Rattle.format.specs.Records.{line}
@@ -78,10 +77,12 @@ returns-in-ReferenceSequence c =
       list = c.loop-at.invariant.2 ∙ u.list ∙ n.list (sq_from c.args.strict c.args.text.now (c.loop-at.at + c.first_line-cut.result.next));
       place = record {
         is = sym (c.loop-at.invariant.3 ∙ u.next ∙ n.next (c.loop-at.at + c.first_line-cut.result.next) (next_from c.args.strict c.args.text.now (c.loop-at.at + c.first_line-cut.result.next)));
-        name = n.inside;
-        small = n.small;
-        onward = λ e. omega (arith, c.loop-at.invariant.0, u.onward);
-        within = u.within;
+        found = record {
+          name = n.inside;
+          small = n.small;
+          onward = omega (arith, c.loop-at.invariant.0, u.onward);
+          within = u.within;
+        };
       };
     }
 
@@ -126,5 +127,5 @@ unfolding told_list
 returns c =
     let a = c.args in record {
       list = c.loop-at.invariant.2 ∙ sq-none a.strict a.text.now c.loop-at.at c.loop-at-test.false;
-      place = record { is = sym (c.loop-at.invariant.3 ∙ next-none a.strict a.text.now c.loop-at.at c.loop-at.invariant.1 c.loop-at-test.false); name = omega arith; small = omega arith; onward = λ e. absurd (false≢true e); within = c.loop-at.invariant.1 };
+      place = record { is = sym (c.loop-at.invariant.3 ∙ next-none a.strict a.text.now c.loop-at.at c.loop-at-test.false); found = tt };
     }

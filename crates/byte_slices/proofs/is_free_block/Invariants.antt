@@ -1,4 +1,3 @@
-use Prim.Native.Nat.{◌-◌, ◌≤◌}
 use mathlib.Core.Path.{◌≡◌}
 use lib.ListN.{drop}
 use lib.Dec.{leb}
@@ -6,7 +5,4 @@ use Rattle.byte_slices.specs.Upto.{upto}
 use Rattle.byte_slices.proofs.is_free_block.Given as goal
 
 abbrev pub invariant-loop-i : goal.invariant-loop-i
-invariant-loop-i l = (l.i ≤ 16) × (l.free ≡ leb l.i (upto l.d (drop l.at l.s)))
-
-abbrev pub decreases-loop-i : goal.decreases-loop-i
-decreases-loop-i l = 16 - l.i
+invariant-loop-i l = l.free ≡ leb l.i (upto l.d (drop l.at l.s))

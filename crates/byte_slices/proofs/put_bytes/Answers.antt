@@ -1,52 +1,13 @@
--- `byte_slices::put_bytes` meets its contract: after i steps the first i bytes are pasted. Assumes nothing.
-use Prim.Native.Nat.{ℕ, ◌+◌, ◌-◌}
-use mathlib.Core.Path.{◌≡◌, refl, sym, ap, ◌∙◌}
-use mathlib.Core.List.{List}
+-- `byte_slices::put_bytes` meets its contract: the part that is written holds the new bytes, and the rest is kept.
+use mathlib.Core.Path.{ap, ◌∙◌}
 use native.Mathlib.Omega.{arith}
-use native.Mathlib.Numerals.{add-one}
-use lib.ListN.{length, length-set, set, get_or}
-use lib.Seq.{paste, paste-zero, paste-suc, take-length}
+use lib.ListN.{length}
 use Rattle.byte_slices.specs.Over.{over}
+use Rattle.byte_slices.proofs.Over.{put_over}
 use Rattle.byte_slices.proofs.put_bytes.Goals as goal
-
-whole : (out₀ : List ℕ) (at : ℕ) (from : List ℕ) (i : ℕ) → i ≡ length from → paste out₀ at from i ≡ over out₀ at from
-unfolding over
-whole out₀ at from i e = rw (e, take-length from) refl
-
-pub loop-i-init : goal.loop-i-init
-loop-i-init c = (omega arith, paste-zero _ c.args.at c.args.from.now, refl)
-
-pub bounds-from-i : goal.bounds-from-i
-bounds-from-i c = omega arith
-
-pub overflow_add-out : goal.overflow_add-out
-overflow_add-out c = omega arith
-
-pub bounds-out-at : goal.bounds-out-at
-bounds-out-at c = omega arith
-
-pub overflow_add-i : goal.overflow_add-i
-overflow_add-i c = omega arith
-
-pub loop-i-smaller : goal.loop-i-smaller
-loop-i-smaller c = omega arith
-
-pub loop-i-preserved : goal.loop-i-preserved
-loop-i-preserved c =
-    let a = c.args in
-    let l = c.loop-i in (
-      omega arith,
-      ap (λ o. set o (a.at + l.i) (get_or a.from.now l.i 0)) l.invariant.1
-          ∙ paste-suc a.out.now a.at a.from.now l.i 0 (omega arith) (omega arith)
-          ∙ ap (paste a.out.now a.at a.from.now) (sym (add-one l.i)),
-      simp length-set (omega arith),
-    )
-
-pub shape_of-out : goal.shape_of-out
-shape_of-out c = c.loop-i.invariant.2
 
 pub returns : goal.returns
 returns c =
     let a = c.args in
-    let l = c.loop-i in
-    l.invariant.1 ∙ whole a.out.now a.at a.from.now l.i (omega arith)
+    let e = c.copy_from_slice.ensures.after in
+    put_over a.out.now _ a.at _ (omega (arith, ap length e)) ∙ ap (over a.out.now a.at) e

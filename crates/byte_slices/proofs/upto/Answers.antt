@@ -1,5 +1,5 @@
 -- `byte_slices::upto` meets its contract: whole blocks were passed; what was passed, and what is still to pass, add up.
-use Prim.Native.Nat.{ℕ, suc, ◌+◌, ◌-◌, ◌*◌, ◌/◌, ◌≤◌, ◌<◌}
+use Prim.Native.Nat.{ℕ, suc, ◌+◌, ◌*◌, ◌/◌, ◌≤◌, ◌<◌}
 use mathlib.Core.Path.{◌≡◌, refl}
 use mathlib.Core.List.{List}
 use native.Mathlib.Omega.{arith}
@@ -26,35 +26,27 @@ module _ (d : ℕ) (s : List ℕ) (i : ℕ) where
   spent h = rw drop_of_length-le refl
 
 -- whole blocks were passed
-started : (d : ℕ) (s : List ℕ) (i : ℕ) → i ≡ upto d s / 16 * 16 → (i ≤ length s) × (upto d s ≡ i + upto d (drop i s))
-started d s i e = (omega (arith, upto_le d s), upto-onward d s i (omega arith))
+started : (d : ℕ) (s : List ℕ) (i : ℕ) → i ≡ upto d s / 16 * 16 → upto d s ≡ i + upto d (drop i s)
+started d s i e = upto-onward d s i (omega arith)
 
 pub loop-i-init : goal.loop-i-init
 loop-i-init c = started _ _ _ c.pass_blocks-i.ensures
-
-pub bounds-s-i : goal.bounds-s-i
-bounds-s-i c = omega arith
 
 pub returns-then-s-i : goal.returns-then-s-i
 returns-then-s-i c =
     let a = c.args in
     let l = c.loop-i in
-    omega (arith, l.invariant.1, stop a.d a.s.now l.i (omega arith) c.if-s-i.true)
-
-pub overflow_add-i : goal.overflow_add-i
-overflow_add-i c = omega arith
-
-pub loop-i-smaller : goal.loop-i-smaller
-loop-i-smaller c = omega arith
+    omega (arith, l.invariant, stop a.d a.s.now l.i (omega arith) c.if-s-i.true)
 
 pub loop-i-preserved : goal.loop-i-preserved
 loop-i-preserved c =
     let a = c.args in
     let l = c.loop-i in
-    (omega arith, omega (arith, l.invariant.1, pass a.d a.s.now l.i (omega arith) c.if-s-i.false))
+    omega (arith, l.invariant, pass a.d a.s.now l.i (omega arith) c.if-s-i.false)
 
 pub returns : goal.returns
 returns c =
     let a = c.args in
     let l = c.loop-i in
-    omega (arith, l.invariant.1, spent a.d a.s.now l.i c.loop-i-test.false)
+    let e : upto a.d (drop l.i a.s.now) ≡ 0 = spent a.d a.s.now l.i (omega arith) in
+    omega (arith, l.invariant, e, upto_le a.d a.s.now)

@@ -1,23 +1,21 @@
 -- `calls::key` meets its contract: reading, 21, then 25 where the catalogue has no such key.
 use mathlib.Core.Path.{sym, ap, ◌∙◌}
+use Rattle.std.specs.Prelude.{ok_or}
+use Rattle.std.proofs.lemmas.Result.{err_from_is_err_and}
 use Rattle.calls.specs.Answers.{key_answer_of}
 use Rattle.read.proofs.Fresh.{refused-by, fresh-by}
-use Rattle.calls.proofs.OwnCatalogue.{key-refused, key-none, key-found}
+use Rattle.calls.proofs.OwnCatalogue.{missing, key-refused, key-served}
 use Rattle.calls.proofs.key.Goals as goal
 
-pub returns-in-Refused : goal.returns-in-Refused
+pub returns-in_err-check : goal.returns-in_err-check
 unfolding key_answer_of
-returns-in-Refused c =
+returns-in_err-check c =
     let a = c.args in
-    sym (ap key_answer_of (key-refused a.text.now a.catalogue.now c.in-Refused.n c.in-Refused.line.0 (refused-by a.text.now a.catalogue.now c.check.ensures c.in-Refused.n c.in-Refused.line c.in-Refused.is) a.kind a.ordinal))
+    let r = c.in_err-check.field-0.0 in
+    let p = err_from_is_err_and c.from_residual.result c.from_residual.ensures.1 in
+    rw (p.1, p.2) (sym (ap key_answer_of (key-refused a.text.now a.catalogue.now r.number r.line.0 (refused-by a.text.now a.catalogue.now c.check.ensures r c.in_err-check.was) a.kind a.ordinal)))
 
-pub returns-in-Nothing : goal.returns-in-Nothing
-unfolding key_answer_of
-returns-in-Nothing c =
+pub returns : goal.returns
+returns c =
     let a = c.args in
-    sym (ap key_answer_of (key-none a.text.now a.catalogue.now (fresh-by a.text.now a.catalogue.now c.check.ensures c.in-Fresh.is) a.kind a.ordinal (sym c.find_key.ensures.is ∙ c.in-Nothing.is)))
-
-pub returns-in-At : goal.returns-in-At
-returns-in-At c =
-    let a = c.args in
-    sym (key-found a.text.now a.catalogue.now (fresh-by a.text.now a.catalogue.now c.check.ensures c.in-Fresh.is) a.kind a.ordinal c.in-At.p (sym c.find_key.ensures.is ∙ c.in-At.is))
+    c.ok_or.ensures.value ∙ rw c.of_text.ensures (ap (λ o. ok_or o missing) c.find_key.ensures.is) ∙ key-served a.text.now a.catalogue.now (fresh-by a.text.now a.catalogue.now c.check.ensures c.in_ok-check.was) a.kind a.ordinal

@@ -1,24 +1,21 @@
 -- `calls::length` meets its contract: reading, 21, then 25 where the catalogue has no such SQ.
 use mathlib.Core.Path.{sym, ap, ◌∙◌}
+use Rattle.std.specs.Prelude.{ok_or}
+use Rattle.std.proofs.lemmas.Result.{err_from_is_err_and}
 use Rattle.calls.specs.Answers.{length_answer_of}
 use Rattle.read.proofs.Fresh.{refused-by, fresh-by}
-use Rattle.calls.proofs.OwnCatalogue.{length-refused, length_none, length_found}
+use Rattle.calls.proofs.OwnCatalogue.{missing, length-refused, length-served}
 use Rattle.calls.proofs.length.Goals as goal
 
-pub returns-in-Refused : goal.returns-in-Refused
+pub returns-in_err-check : goal.returns-in_err-check
 unfolding length_answer_of
-returns-in-Refused c =
+returns-in_err-check c =
     let a = c.args in
-    sym (ap length_answer_of (length-refused a.text.now a.catalogue.now c.in-Refused.n c.in-Refused.line.0 (refused-by a.text.now a.catalogue.now c.check.ensures c.in-Refused.n c.in-Refused.line c.in-Refused.is) a.ordinal))
+    let r = c.in_err-check.field-0.0 in
+    let p = err_from_is_err_and c.from_residual.result c.from_residual.ensures.1 in
+    rw (p.1, p.2) (sym (ap length_answer_of (length-refused a.text.now a.catalogue.now r.number r.line.0 (refused-by a.text.now a.catalogue.now c.check.ensures r c.in_err-check.was) a.ordinal)))
 
-pub returns-in-Nothing : goal.returns-in-Nothing
-unfolding length_answer_of
-returns-in-Nothing c =
+pub returns : goal.returns
+returns c =
     let a = c.args in
-    sym (ap length_answer_of (length_none a.text.now a.catalogue.now (fresh-by a.text.now a.catalogue.now c.check.ensures c.in-Fresh.is) a.ordinal (sym c.find_length.ensures.is ∙ c.in-Nothing.is)))
-
-pub returns-in-Is : goal.returns-in-Is
-unfolding length_answer_of
-returns-in-Is c =
-    let a = c.args in
-    sym (ap length_answer_of (length_found a.text.now a.catalogue.now (fresh-by a.text.now a.catalogue.now c.check.ensures c.in-Fresh.is) a.ordinal c.in-Is.n (sym c.find_length.ensures.is ∙ c.in-Is.is)))
+    c.ok_or.ensures.value ∙ rw c.of_text.ensures (ap (λ o. ok_or o missing) c.find_length.ensures.is) ∙ length-served a.text.now a.catalogue.now (fresh-by a.text.now a.catalogue.now c.check.ensures c.in_ok-check.was) a.ordinal

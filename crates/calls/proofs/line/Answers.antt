@@ -1,24 +1,21 @@
 -- `calls::line` meets its contract: reading, 21, then 25 where the catalogue has no such record.
 use mathlib.Core.Path.{sym, ap, ◌∙◌}
+use Rattle.std.specs.Prelude.{ok_or}
+use Rattle.std.proofs.lemmas.Result.{err_from_is_err_and}
 use Rattle.calls.specs.Answers.{line_answer_of}
 use Rattle.read.proofs.Fresh.{refused-by, fresh-by}
-use Rattle.calls.proofs.OwnCatalogue.{line_refused, line-none, line-found}
+use Rattle.calls.proofs.OwnCatalogue.{missing, line_refused, line-served}
 use Rattle.calls.proofs.line.Goals as goal
 
-pub returns-in-Refused : goal.returns-in-Refused
+pub returns-in_err-check : goal.returns-in_err-check
 unfolding line_answer_of
-returns-in-Refused c =
+returns-in_err-check c =
     let a = c.args in
-    sym (ap line_answer_of (line_refused a.text.now a.catalogue.now c.in-Refused.n c.in-Refused.line.0 (refused-by a.text.now a.catalogue.now c.check.ensures c.in-Refused.n c.in-Refused.line c.in-Refused.is) a.kind a.ordinal))
+    let r = c.in_err-check.field-0.0 in
+    let p = err_from_is_err_and c.from_residual.result c.from_residual.ensures.1 in
+    rw (p.1, p.2) (sym (ap line_answer_of (line_refused a.text.now a.catalogue.now r.number r.line.0 (refused-by a.text.now a.catalogue.now c.check.ensures r c.in_err-check.was) a.kind a.ordinal)))
 
-pub returns-in-Nothing : goal.returns-in-Nothing
-unfolding line_answer_of
-returns-in-Nothing c =
+pub returns : goal.returns
+returns c =
     let a = c.args in
-    sym (ap line_answer_of (line-none a.text.now a.catalogue.now (fresh-by a.text.now a.catalogue.now c.check.ensures c.in-Fresh.is) a.kind a.ordinal (sym c.find_line.ensures.is ∙ c.in-Nothing.is)))
-
-pub returns-in-On : goal.returns-in-On
-unfolding line_answer_of
-returns-in-On c =
-    let a = c.args in
-    sym (ap line_answer_of (line-found a.text.now a.catalogue.now (fresh-by a.text.now a.catalogue.now c.check.ensures c.in-Fresh.is) a.kind a.ordinal c.in-On.line (sym c.find_line.ensures.is ∙ c.in-On.is)))
+    c.ok_or.ensures.value ∙ rw c.of_text.ensures (ap (λ o. ok_or o missing) c.find_line.ensures.is) ∙ line-served a.text.now a.catalogue.now (fresh-by a.text.now a.catalogue.now c.check.ensures c.in_ok-check.was) a.kind a.ordinal

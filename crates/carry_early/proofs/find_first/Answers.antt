@@ -1,7 +1,6 @@
 -- `carry_early::find_first` meets its contract: what is asked of the whole text is asked of the lines still to come.
-use Prim.Native.Nat.{ℕ, ◌+◌, ◌-◌, ◌≤◌, ◌<◌}
+use Prim.Native.Nat.{ℕ, ◌≤◌, ◌<◌}
 use mathlib.Core.Path.{◌≡◌, refl, sym, ap, ◌∙◌}
-use mathlib.Core.Bool.{Bool}
 use mathlib.Core.List.{List, []}
 use native.Mathlib.Omega.{arith}
 use lib.ListN.{length}
@@ -10,7 +9,6 @@ use Rattle.accepted.proofs.Ahead.{ahead, ahead-one, ahead_none}
 use Rattle.carry_early.specs.Early.{early_from, early_of}
 use Rattle.carry_early.specs.First.{start_of}
 use Rattle.carry_early.proofs.Early.{early-within, early-kept, early-skipped}
-use Rattle.carry_early.proofs.find_first.Invariants.{Left}
 use Rattle.carry_early.proofs.find_first.Goals as goal
 use Rattle.carry_early.proofs.find_first.Goals.{After-judge_early-early}
 

@@ -1,5 +1,5 @@
 -- `carry_early::put_early` meets its contract: what is written, and the rows of the lines still to come, is all.
-use Prim.Native.Nat.{ℕ, ◌+◌, ◌*◌, ◌-◌, ◌≤◌, ◌<◌}
+use Prim.Native.Nat.{ℕ, ◌+◌, ◌*◌, ◌≤◌, ◌<◌}
 use mathlib.Core.Path.{◌≡◌, refl, sym, ap, ◌∙◌}
 use mathlib.Core.List.{List, [], ◌∷◌}
 use native.Mathlib.Omega.{arith}
@@ -46,13 +46,6 @@ overflow_cast-line c =
 pub put_row-requires : goal.put_row-requires
 put_row-requires c =
     omega (arith, c.loop-line.invariant.1, c.loop-line.invariant.2, c.requires.count_in_bounds, ap length (skipped (goal.at.put_row-requires c).After-judge_early-early).0)
-
-pub overflow_add-line : goal.overflow_add-line
-overflow_add-line c =
-    omega (arith, c.loop-line.invariant.4, c.loop-line.invariant.0, c.requires.text_len_bound)
-
-pub loop-line-smaller : goal.loop-line-smaller
-loop-line-smaller c = omega (arith, c.loop-line.invariant.1, ap length (skipped (goal.at.loop-line-smaller c).After-judge_early-early).0)
 
 rows-length : (l : ℕ) (ns : List ℕ) → length (rows_from l ns) ≡ length ns * 2
 unfolding rows_from

@@ -1,4 +1,4 @@
-use Prim.Native.Nat.{◌+◌, ◌*◌, ◌-◌, ◌≤◌}
+use Prim.Native.Nat.{◌+◌, ◌*◌, ◌≤◌}
 use mathlib.Core.Path.{◌≡◌}
 use lib.ListN.{length}
 use Rattle.byte_slices.specs.Over.{over}
@@ -14,6 +14,3 @@ invariant-loop-line l =
     × (length l.table ≡ length l.initial.table)
     × (over l.table (l.line * 2) (rows_from l.line (early_from l.strict (ahead l.text l.at)).refusals) ≡ over l.initial.table 0 (rows_from 0 (early_of l.text).refusals))
     × (l.line ≤ l.at)
-
-abbrev pub decreases-loop-line : goal.decreases-loop-line
-decreases-loop-line l = l.count - l.line

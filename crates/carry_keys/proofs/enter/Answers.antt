@@ -1,7 +1,8 @@
 -- `carry_keys::enter` meets its contract: what is left of the block's lines is to enter still.
 use Prim.Native.Nat.{ℕ, ◌+◌, ◌-◌, ◌≤◌, ◌<◌}
 use mathlib.Core.Path.{◌≡◌, refl, sym, ap, ap₂, subst, ◌∙◌}
-use mathlib.Core.Bool.{true, false≢true}
+use mathlib.Core.Bool.{true}
+use Rattle.std.proofs.lemmas.Result.{err_from_is_err_and}
 use native.Mathlib.Omega.{arith}
 use lib.ListN.{length, drop}
 use Rattle.format.specs.Lines.{lines_from}
@@ -12,8 +13,6 @@ use Rattle.accepted.proofs.Ahead.{next_more, next-within}
 use Rattle.record.specs.Head.{head_of}
 use Rattle.key_index.specs.KeySlots.{after_entering}
 use Rattle.key_index.specs.Keyed.{KeyInText}
-use Rattle.key_index.specs.Counting.{too_many}
-use Rattle.key_index.proofs.counting.Calm.{counted-most, calm-few, busy-plain}
 use Rattle.key_index.proofs.Looking.{head-looks-few}
 use Rattle.key_index.proofs.HeldKeys.{entering-length}
 use Rattle.carry_keys.specs.Blocks.{head_keys, keyed_front, after_keyed, entered}
@@ -40,9 +39,9 @@ returns-then-end-text c =
     let v = c.loop-n.invariant in
     let left : ℕ = a.many - c.loop-n.n in
     let e : c.loop-n.end ≡ length a.text.now = omega (arith, c.if-end-text.true) in record {
-      end = (λ _. sym (v.3 ∙ after-end a.seed a.text.now c.loop-n.end a.strict left e));
-      wrote = (λ _. sym (v.4 ∙ entered-end a.seed a.text.now c.loop-n.end a.strict c.loop-n.area left (omega (arith, e))));
-      busy = (λ q. absurd (false≢true q));
+      end = sym (v.3 ∙ after-end a.seed a.text.now c.loop-n.end a.strict left e);
+      wrote = sym (v.4 ∙ entered-end a.seed a.text.now c.loop-n.end a.strict c.loop-n.area left (omega (arith, e)));
+      busy = tt;
       looks = omega (arith, v.6);
     }
 
@@ -60,14 +59,11 @@ find_or_enter-found-requires c =
       key_in_text = subst (KeyInText (length t)) (sym c.parse_at-parsed.ensures.head) (placed_at c.args.strict t c.loop-n.end c.requires.text_len_bound (ahead (goal.at.find_or_enter-found-requires c).Else-end-text));
     }
 
--- few slots were looked at before
-pub counted-slots-requires : goal.counted-slots-requires
-counted-slots-requires c =
-    omega (arith, c.loop-n.invariant.1, c.loop-n.invariant.5, c.loop-n.invariant.6, c.requires.text_len_bound)
-
-pub is_busy-requires : goal.is_busy-requires
-is_busy-requires c =
-    omega (arith, c.loop-n.invariant.1, c.loop-n.invariant.5, c.requires.text_len_bound)
+pub with_line-requires : goal.with_line-requires
+with_line-requires c = record {
+  lines_bound = omega (arith, ahead (goal.at.with_line-requires c).Else-end-text, c.loop-n.invariant.5, c.requires.text_len_bound);
+  slots_bound = c.loop-n.invariant.6;
+}
 
 -- the area is as long as before
 long : (m : After-find_or_enter-found)
@@ -76,21 +72,17 @@ long m =
     let a = m.args in
     ap length m.find_or_enter-found.ensures.wrote ∙ entering-length a.seed true a.text.now m.loop-n.area m.parse_at-parsed.result.head ∙ m.loop-n.invariant.2
 
-pub shape_of-area-then-is_busy : goal.shape_of-area-then-is_busy
-shape_of-area-then-is_busy c = long (goal.at.shape_of-area-then-is_busy c).After-find_or_enter-found
+pub shape_of-area-in_err-looks : goal.shape_of-area-in_err-looks
+shape_of-area-in_err-looks c = long (goal.at.shape_of-area-in_err-looks c).After-find_or_enter-found
 
--- given up: plain numbers, and one key more was looked for
-pub returns-then-is_busy : goal.returns-then-is_busy
-returns-then-is_busy c =
+-- given up: one key more was looked for
+pub returns-in_err-looks-clause-looks : goal.returns-in_err-looks-clause-looks
+returns-in_err-looks-clause-looks c =
     let a = c.args in
     let v = c.loop-n.invariant in
-    let plain = busy-plain a.seed.keyed c.loop-n.lines c.counted-slots.result (sym c.is_busy.ensures ∙ c.if-is_busy.true) in
-    let more = head-looks-few a.seed a.text.now c.loop-n.area c.parse_at-parsed.result.head (omega (arith, v.2, c.requires.area_nonzero)) in record {
-      end = (λ q. absurd (false≢true (sym q)));
-      wrote = (λ q. absurd (false≢true (sym q)));
-      busy = (λ _. plain);
-      looks = omega (arith, c.counted-slots.ensures, counted-most a.seed.keyed c.loop-n.slots c.find_or_enter-found.result.slots, c.find_or_enter-found.ensures.slots, more, v.2, v.6);
-    }
+    let more = head-looks-few a.seed a.text.now c.loop-n.area c.parse_at-parsed.result.head (omega (arith, v.2, c.requires.area_nonzero)) in
+    let p = err_from_is_err_and c.from_residual.result c.from_residual.ensures.1 in
+    rw (p.1, p.2) (omega (arith, c.in_err-looks.ensures.err, c.find_or_enter-found.ensures.slots, more, v.2))
 
 -- no more keys than may enter
 within : (c : After-keys_in-n)
@@ -100,10 +92,6 @@ within c =
 
 pub overflow_add-n : goal.overflow_add-n
 overflow_add-n c = omega (arith, within c)
-
-pub overflow_add-lines : goal.overflow_add-lines
-overflow_add-lines c =
-    omega (arith, c.loop-n.invariant.5, c.loop-n.invariant.1, c.requires.text_len_bound)
 
 pub loop-n-smaller : goal.loop-n-smaller
 loop-n-smaller c =
@@ -122,8 +110,6 @@ loop-n-preserved c =
     let some : 0 < left = omega (arith, c.loop-n-test.true) in
     let n : c.keys_in-n.result ≡ head_keys (head_of (line a.strict (first_at at t))) = c.keys_in-n.ensures ∙ ap head_keys c.parse_at-parsed.ensures.head in
     let less : left - head_keys (head_of (line a.strict (first_at at t))) ≡ k = omega (arith, n) in
-    let calm = calm-few a.seed.keyed c.loop-n.lines c.loop-n.slots c.find_or_enter-found.result.slots
-    (ap (too_many a.seed.keyed c.loop-n.lines) (sym c.counted-slots.ensures) ∙ sym c.is_busy.ensures ∙ c.if-is_busy.false) v.6 in
     let next : at + (first_line (drop at t)).next ≡ c.parse_at-parsed.result.next = sym c.parse_at-parsed.ensures.next in
     let area : after_entering a.seed true t c.loop-n.area (head_of (line a.strict (first_at at t))) ≡ c.find_or_enter-found.new.area = ap (after_entering a.seed true t c.loop-n.area) (sym c.parse_at-parsed.ensures.head) ∙ sym c.find_or_enter-found.ensures.wrote in (
       within c,
@@ -131,8 +117,8 @@ loop-n-preserved c =
       long (goal.at.loop-n-preserved c).After-find_or_enter-found,
       v.3 ∙ after_on a.seed t at a.strict left k some less h ∙ ap (λ i. after_keyed a.strict k i t) next,
       v.4 ∙ entered_on a.seed t at a.strict c.loop-n.area left k some less h ∙ ap₂ (λ s i. entered a.seed a.strict t s (keyed_front a.strict k (lines_from i (drop i t)))) area next,
-      omega (arith, sym next, next_more t at h, v.5),
-      omega (arith, c.counted-slots.ensures, calm),
+      omega (arith, sym next, next_more t at h, v.5, c.in_ok-looks.ensures.ok.0),
+      c.in_ok-looks.ensures.ok.1,
     )
 
 pub shape_of-area : goal.shape_of-area
@@ -143,8 +129,8 @@ returns c =
     let a = c.args in
     let v = c.loop-n.invariant in
     let z : a.many - c.loop-n.n ≡ 0 = omega (arith, c.loop-n-test.false) in record {
-      end = (λ _. sym (v.3 ∙ after_none a.seed a.text.now c.loop-n.end a.strict (a.many - c.loop-n.n) z v.1));
-      wrote = (λ _. sym (v.4 ∙ entered-none a.seed a.text.now c.loop-n.end a.strict c.loop-n.area (a.many - c.loop-n.n) z));
-      busy = (λ q. absurd (false≢true q));
+      end = sym (v.3 ∙ after_none a.seed a.text.now c.loop-n.end a.strict (a.many - c.loop-n.n) z v.1);
+      wrote = sym (v.4 ∙ entered-none a.seed a.text.now c.loop-n.end a.strict c.loop-n.area (a.many - c.loop-n.n) z);
+      busy = tt;
       looks = omega (arith, v.6);
     }

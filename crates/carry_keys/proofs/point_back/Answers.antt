@@ -1,7 +1,7 @@
 -- `carry_keys::point_back` meets its contract: what is left of the earlier lines is to be pointed to still.
-use Prim.Native.Nat.{ℕ, ◌+◌, ◌-◌, ◌<◌}
+use Prim.Native.Nat.{ℕ, ◌+◌, ◌<◌}
 use mathlib.Core.Path.{◌≡◌, refl, sym, ap, ap₂, subst, ◌∙◌}
-use mathlib.Core.Bool.{false≢true}
+use Rattle.std.proofs.lemmas.Result.{err_from_is_err_and}
 use native.Mathlib.Omega.{arith}
 use lib.ListN.{length, drop}
 use Rattle.format.specs.Lines.{lines_from}
@@ -12,8 +12,6 @@ use Rattle.accepted.proofs.Ahead.{next_more}
 use Rattle.record.specs.Head.{head_of}
 use Rattle.key_index.specs.KeySlots.{after_pointing}
 use Rattle.key_index.specs.Keyed.{KeyInText}
-use Rattle.key_index.specs.Counting.{too_many}
-use Rattle.key_index.proofs.counting.Calm.{counted-most, calm-few, busy-plain}
 use Rattle.key_index.proofs.Looking.{head-looks-few}
 use Rattle.key_index.proofs.HeldKeys.{pointing-length}
 use Rattle.carry_keys.specs.Blocks.{earlier, pointed_back}
@@ -42,14 +40,11 @@ point_to_head-more-requires c =
       key_in_text = subst (KeyInText (length t)) (sym c.parse_at-parsed.ensures.head) (placed_at c.args.strict t c.loop-at.at c.requires.text_len_bound (ahead (goal.at.point_to_head-more-requires c).In-loop-at));
     }
 
--- few slots were looked at before
-pub counted-slots-requires : goal.counted-slots-requires
-counted-slots-requires c =
-    omega (arith, ahead (goal.at.counted-slots-requires c).In-loop-at, c.loop-at.invariant.2, c.loop-at.invariant.3, c.requires.text_len_bound)
-
-pub is_busy-requires : goal.is_busy-requires
-is_busy-requires c =
-    omega (arith, ahead (goal.at.is_busy-requires c).In-loop-at, c.loop-at.invariant.2, c.requires.text_len_bound)
+pub with_line-requires : goal.with_line-requires
+with_line-requires c = record {
+  lines_bound = omega (arith, ahead (goal.at.with_line-requires c).In-loop-at, c.loop-at.invariant.2, c.requires.text_len_bound);
+  slots_bound = c.loop-at.invariant.3;
+}
 
 -- the area is as long as before
 long : (m : After-point_to_head-more)
@@ -58,24 +53,17 @@ long m =
     let a = m.args in
     ap length m.point_to_head-more.ensures.wrote ∙ pointing-length a.seed a.text.now m.loop-at.area m.parse_at-parsed.result.head ∙ m.loop-at.invariant.0
 
-pub shape_of-area-then-is_busy : goal.shape_of-area-then-is_busy
-shape_of-area-then-is_busy c = long (goal.at.shape_of-area-then-is_busy c).After-point_to_head-more
+pub shape_of-area-in_err-looks : goal.shape_of-area-in_err-looks
+shape_of-area-in_err-looks c = long (goal.at.shape_of-area-in_err-looks c).After-point_to_head-more
 
--- given up: plain numbers, and one key more was looked for
-pub returns-then-is_busy : goal.returns-then-is_busy
-returns-then-is_busy c =
+-- given up: one key more was looked for
+pub returns-in_err-looks-clause-looks : goal.returns-in_err-looks-clause-looks
+returns-in_err-looks-clause-looks c =
     let a = c.args in
     let v = c.loop-at.invariant in
-    let plain = busy-plain a.seed.keyed c.loop-at.lines c.counted-slots.result (sym c.is_busy.ensures ∙ c.if-is_busy.true) in
-    let more = head-looks-few a.seed a.text.now c.loop-at.area c.parse_at-parsed.result.head (omega (arith, v.0, c.requires.area_nonzero)) in record {
-      wrote = (λ q. absurd (false≢true (sym q)));
-      busy = (λ _. plain);
-      looks = omega (arith, c.counted-slots.ensures, counted-most a.seed.keyed c.loop-at.slots c.point_to_head-more.result, c.point_to_head-more.ensures.slots, more, v.0, v.3);
-    }
-
-pub overflow_add-lines : goal.overflow_add-lines
-overflow_add-lines c =
-    omega (arith, ahead (goal.at.overflow_add-lines c).In-loop-at, c.loop-at.invariant.2, c.requires.text_len_bound)
+    let more = head-looks-few a.seed a.text.now c.loop-at.area c.parse_at-parsed.result.head (omega (arith, v.0, c.requires.area_nonzero)) in
+    let p = err_from_is_err_and c.from_residual.result c.from_residual.ensures.1 in
+    rw (p.1, p.2) (omega (arith, c.in_err-looks.ensures.err, c.point_to_head-more.ensures.slots, more, v.0))
 
 pub loop-at-smaller : goal.loop-at-smaller
 loop-at-smaller c =
@@ -89,13 +77,11 @@ loop-at-preserved c =
     let v = c.loop-at.invariant in
     let at : ℕ = c.loop-at.at in
     let next : at + (first_line (drop at t)).next ≡ c.parse_at-parsed.result.next = sym c.parse_at-parsed.ensures.next in
-    let area : after_pointing a.seed t c.loop-at.area (head_of (line a.strict (first_at at t))) ≡ c.point_to_head-more.new.area = ap (after_pointing a.seed t c.loop-at.area) (sym c.parse_at-parsed.ensures.head) ∙ sym c.point_to_head-more.ensures.wrote in
-    let calm = calm-few a.seed.keyed c.loop-at.lines c.loop-at.slots c.point_to_head-more.result
-    (ap (too_many a.seed.keyed c.loop-at.lines) (sym c.counted-slots.ensures) ∙ sym c.is_busy.ensures ∙ c.if-is_busy.false) v.3 in (
+    let area : after_pointing a.seed t c.loop-at.area (head_of (line a.strict (first_at at t))) ≡ c.point_to_head-more.new.area = ap (after_pointing a.seed t c.loop-at.area) (sym c.parse_at-parsed.ensures.head) ∙ sym c.point_to_head-more.ensures.wrote in (
       long (goal.at.loop-at-preserved c).After-point_to_head-more,
       v.1 ∙ pointed-on a.seed a.to t at a.strict c.loop-at.area c.loop-at-test.true (ahead (goal.at.loop-at-preserved c).In-loop-at) ∙ ap₂ (λ s k. pointed_back a.seed a.strict t s (earlier a.to (lines_from k (drop k t)))) area next,
-      omega (arith, sym next, next_more t at (ahead (goal.at.loop-at-preserved c).In-loop-at), v.2),
-      omega (arith, c.counted-slots.ensures, calm),
+      omega (arith, sym next, next_more t at (ahead (goal.at.loop-at-preserved c).In-loop-at), v.2, c.in_ok-looks.ensures.ok.0),
+      c.in_ok-looks.ensures.ok.1,
     )
 
 pub shape_of-area : goal.shape_of-area
@@ -105,7 +91,7 @@ pub returns : goal.returns
 returns c =
     let a = c.args in
     let v = c.loop-at.invariant in record {
-      wrote = (λ _. sym (v.1 ∙ pointed-end a.seed a.to a.text.now c.loop-at.at a.strict c.loop-at.area c.loop-at-test.false));
-      busy = (λ q. absurd (false≢true q));
+      wrote = sym (v.1 ∙ pointed-end a.seed a.to a.text.now c.loop-at.at a.strict c.loop-at.area c.loop-at-test.false);
+      busy = tt;
       looks = omega (arith, v.3);
     }

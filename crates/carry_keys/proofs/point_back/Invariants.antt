@@ -8,7 +8,7 @@ use Rattle.carry_keys.proofs.point_back.Given as goal
 abbrev pub invariant-loop-at : goal.invariant-loop-at
 invariant-loop-at l =
     (length l.area ≡ length l.initial.area) × (pointed_back l.seed l.strict l.text l.initial.area (earlier l.to (lines_from l.from (drop l.from l.text))) ≡ pointed_back l.seed l.strict l.text l.area (earlier l.to (lines_from l.at (drop l.at l.text))))
-    × (l.lines ≤ l.at) × (l.slots ≤ 65536 + 16 * l.lines)
+    × (l.looks.lines ≤ l.at) × (l.looks.slots ≤ 65536 + 16 * l.looks.lines)
 
 abbrev pub decreases-loop-at : goal.decreases-loop-at
 decreases-loop-at l = length l.text - l.at

@@ -7,7 +7,7 @@ use Rattle.carry_on.proofs.carry_on.Goals as goal
 pub carry_accepted-requires : goal.carry_accepted-requires
 unfolding is_accepted
 carry_accepted-requires c =
-    let told = text-accepted c.args.text.now c.in-Accepted.field-0 c.in-Accepted.once (sym c.judge.ensures ∙ c.in-Accepted.is) in record {
+    let told = text-accepted c.args.text.now c.in-Ok.accepted (sym c.judge.ensures ∙ c.in-Ok.is) in record {
       text_value = ap is_accepted told.reads;
       reads_by = told.rule;
     }

@@ -10,14 +10,14 @@ use Rattle.carry_on.proofs.carry_on_with.Goals as goal
 pub carry_accepted-requires : goal.carry_accepted-requires
 unfolding is_accepted
 carry_accepted-requires c =
-    let told = text-accepted c.args.text.now c.in-Accepted.field-0 c.in-Accepted.once (sym c.judge_with.ensures.judged ∙ c.in-Accepted.is) in record {
+    let told = text-accepted c.args.text.now c.in-Ok.accepted (sym c.judge_with.ensures.judged ∙ c.in-Ok.is) in record {
       text_value = ap is_accepted told.reads;
       reads_by = told.rule;
     }
 
-pub returns-in-Refused : goal.returns-in-Refused
+pub returns-in-Err : goal.returns-in-Err
 unfolding all_zeros
-returns-in-Refused c =
+returns-in-Err c =
     let e = c.carry_refused_with.ensures in record {
       answer = e.answer;
       wrote = e.wrote;
@@ -25,8 +25,8 @@ returns-in-Refused c =
       zeros = e.zeros ∙ ap (λ n. replicate n 0) (zeros-long c.judge_with.new.area c.args.work.now c.judge_with.ensures.zeros);
     }
 
-pub returns-in-Accepted : goal.returns-in-Accepted
-returns-in-Accepted c =
+pub returns-in-Ok : goal.returns-in-Ok
+returns-in-Ok c =
     let e = c.carry_accepted.ensures in record {
       answer = e.answer;
       wrote = e.wrote;

@@ -8,6 +8,6 @@ pub returns-then-text-gt-LONGEST : goal.returns-then-text-gt-LONGEST
 returns-then-text-gt-LONGEST c =
     let a = c.args in
     let t = c.args.text.now in
-    let told = refused_all (carrying t (length a.out.now) (length a.table.now)) a.out.now a.table.now 1 (record { 0 = 0 })
+    let told = refused_all (carrying t (length a.out.now) (length a.table.now)) a.out.now a.table.now (record { number = 1; line = record { 0 = 0 } })
     (told-long t (length a.out.now) (length a.table.now) c.if-text-gt-LONGEST.true) in
-    record { answer = told.0; wrote = told.1.0; listed = told.1.1 }
+    record { answer = rw c.of_text.ensures told.0; wrote = told.1.0; listed = told.1.1 }

@@ -11,8 +11,8 @@ unfolding all_zeros
 returns-then-text-gt-LONGEST c =
     let a = c.args in
     let t = c.args.text.now in
-    let r = refused_all (carrying t (length a.out.now) (length a.table.now)) a.out.now a.table.now 1 (record { 0 = 0 }) (told-long t (length a.out.now) (length a.table.now) c.if-text-gt-LONGEST.true) in record {
-      answer = r.0;
+    let r = refused_all (carrying t (length a.out.now) (length a.table.now)) a.out.now a.table.now (record { number = 1; line = record { 0 = 0 } }) (told-long t (length a.out.now) (length a.table.now) c.if-text-gt-LONGEST.true) in record {
+      answer = rw c.of_text.ensures r.0;
       wrote = r.1.0;
       listed = r.1.1;
       zeros = c.clear.ensures;

@@ -67,10 +67,10 @@ pub returns-then-unfit-ne0 : goal.returns-then-unfit-ne0
 returns-then-unfit-ne0 c =
     let a = c.args in
     let t = c.args.text.now in
-    let told = refused_all (carrying t (length a.out.now) (length a.table.now)) a.out.now a.table.now c.fit-unfit.result (record { 0 = 0 })
+    let told = refused_all (carrying t (length a.out.now) (length a.table.now)) a.out.now a.table.now (record { number = c.fit-unfit.result; line = record { 0 = 0 } })
     (told-refused t (length a.out.now) (length a.table.now) c.requires.text_len_bound c.fit-unfit.result 0
     (write-unfit (length a.out.now) (unwritable_line 0 (carried_lines t)) (kept t) c.requires.text_value _ c.fit-unfit.result (size (goal.at.returns-then-unfit-ne0 c).After-fit-unfit) c.fit-unfit.ensures c.if-unfit-ne0.true)) in
-    record { answer = told.0; wrote = told.1.0; listed = told.1.1 }
+    record { answer = rw c.of_text.ensures told.0; wrote = told.1.0; listed = told.1.1 }
 
 pub overflow_add-lines : goal.overflow_add-lines
 overflow_add-lines c = omega (arith, count (goal.at.overflow_add-lines c).Start)
@@ -82,10 +82,10 @@ pub returns-then-table-lines : goal.returns-then-table-lines
 returns-then-table-lines c =
     let a = c.args in
     let t = c.args.text.now in
-    let told = refused_all (carrying t (length a.out.now) (length a.table.now)) a.out.now a.table.now 20 (record { 0 = 0 })
+    let told = refused_all (carrying t (length a.out.now) (length a.table.now)) a.out.now a.table.now (record { number = 20; line = record { 0 = 0 } })
     (told-short t (length a.out.now) (length a.table.now) c.requires.text_len_bound (kept t) (written (goal.at.returns-then-table-lines c).Else-unfit-ne0)
     (omega (arith, count (goal.at.returns-then-table-lines c).Start, c.if-table-lines.true))) in
-    record { answer = told.0; wrote = told.1.0; listed = told.1.1 }
+    record { answer = rw c.of_text-then-table-lines.ensures told.0; wrote = told.1.0; listed = told.1.1 }
 
 pub starts-requires : goal.starts-requires
 unfolding total front

@@ -16,7 +16,7 @@ write_kept-requires c =
     let t = c.args.text.now in
     let b = c.args.b in
     let f = c.requires.first in
-    let is = measured-is (unwritable_from t b) (sizes_of (kept_from t b)) (length (skipped_from t b)) c.in-Is.sizes c.in-Is.skipped (sym c.requires.measured_value ∙ c.in-Is.is) in record {
+    let is = measured-is (unwritable_from t b) (sizes_of (kept_from t b)) (length (skipped_from t b)) c.in-Ok.kept (sym c.requires.measured_value ∙ c.in-Ok.is) in record {
       text_len_bound = c.requires.text_len_bound;
       first = f;
       in_bounds = c.requires.in_bounds;
@@ -25,13 +25,13 @@ write_kept-requires c =
       skipped_value = sym is.1.1;
     }
 
-pub returns-in-Unwritable : goal.returns-in-Unwritable
-returns-in-Unwritable c =
+pub returns-in-Err : goal.returns-in-Err
+returns-in-Err c =
     let a = c.args in
     let t = c.args.text.now in
-    let l = c.in-Unwritable.line in
-    let bad = measured-bad (unwritable_from t a.b) (sizes_of (kept_from t a.b)) (length (skipped_from t a.b)) l (sym c.requires.measured_value ∙ c.in-Unwritable.is) in
-    let told = refused_all (carrying t (length a.out.now) (length a.table.now)) a.out.now a.table.now 24 l
+    let l = c.in-Err.line in
+    let bad = measured-bad (unwritable_from t a.b) (sizes_of (kept_from t a.b)) (length (skipped_from t a.b)) l (sym c.requires.measured_value ∙ c.in-Err.is) in
+    let told = refused_all (carrying t (length a.out.now) (length a.table.now)) a.out.now a.table.now (record { number = 24; line = l })
     (told-refused t (length a.out.now) (length a.table.now) c.requires.text_len_bound 24 l.0
     (write-bad (length a.out.now) (unwritable_line 0 (carried_lines t)) (tidy (kept_of (carried_lines t))) l.0 (first-names t a.b c.requires.first ∙ bad))) in
     record { answer = told.0; wrote = told.1.0; listed = told.1.1 }

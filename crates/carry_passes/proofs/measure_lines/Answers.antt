@@ -1,10 +1,11 @@
 -- `carry_passes::measure_lines` meets its contract: what is asked of the lines from the first kept on is asked of those still to come.
-use Prim.Native.Nat.{◌+◌, ◌-◌, ◌≤◌}
+use Prim.Native.Nat.{ℕ, ◌+◌, ◌-◌, ◌≤◌}
 use mathlib.Core.Path.{◌≡◌, refl, sym, ap, ap₂, ◌∙◌}
 use native.Mathlib.Omega.{arith}
 use lib.ListN.{length, drop}
 use Rattle.format.specs.Tidy.{tidy}
 use Rattle.tidy_sizes.specs.Numbers.{get}
+use Rattle.tidy_sizes.specs.declared.PerKind.{PerKind}
 use Rattle.tidy_text.specs.Sizes.{sizes_of}
 use Rattle.tidy_text.proofs.Total.{size}
 use Rattle.tidy_text.proofs.Sizes.{get_none, size_none, each-get}
@@ -16,10 +17,15 @@ use Rattle.carry_passes.proofs.Begun.{begun}
 use Rattle.carry_passes.proofs.NextLine.{turn, kept-le, none_left, all-count}
 use Rattle.carry_passes.proofs.Steps.{kind_at, turn-read}
 use Rattle.carry_passes.specs.Measured.{kept_measured}
-use Rattle.carry_passes.specs.declared.KeptSizes.TheVariants as measured
+use Rattle.carry_passes.specs.declared.KeptSizes.{KeptSizes}
+use Rattle.std.specs.Prelude.{Result, Ok}
+use Rattle.format.specs.declared.LineNo.{LineNo}
 use Rattle.carry_passes.proofs.MeasuredSteps.{names-bad, names_more, sizes-more, size_fits}
 use Rattle.carry_passes.proofs.measure_lines.Goals as goal
 use Rattle.carry_passes.proofs.measure_lines.Goals.{After-next_line-step, At-loop-c}
+
+abbrev kept : PerKind → ℕ → Result KeptSizes LineNo
+kept s n = Ok (record { sizes = s; skipped = n })
 
 -- the line of a step
 turned : (c : After-next_line-step)
@@ -117,10 +123,10 @@ loop-c-preserved c =
     let l = c.loop-c in
     let w = c.next_line-step in
     let u = turned (goal.at.loop-c-preserved c).After-next_line-step in
-    let s = c.in-Is.next in
+    let s = c.in-Some.next in
     let ls = lines_kept_from a.text.now b in
     let on = c.next_line-step.ensures.line in
-    let e = sym c.with_step-grown.ensures ∙ c.in-Is.is in (
+    let e = sym c.with_step-grown.ensures ∙ c.in-Some.is in (
       w.ensures.next,
       l.invariant.1
           ∙ names_more b.strict a.text.now b.at l.c w.result.end w.result.refusal u l.sizes s e (b.line + l.c.line)
@@ -131,8 +137,8 @@ loop-c-preserved c =
       w.ensures.room2 ∙ l.invariant.4,
     )
 
-pub overflow_sub-result : goal.overflow_sub-result
-overflow_sub-result c = (small (goal.at.overflow_sub-result c).At-loop-c).0
+pub overflow_sub-skipped : goal.overflow_sub-skipped
+overflow_sub-skipped c = (small (goal.at.overflow_sub-skipped c).At-loop-c).0
 
 pub shape_of-area : goal.shape_of-area
 shape_of-area c = c.loop-c.invariant.3
@@ -150,7 +156,7 @@ returns c =
     let e = none_left a.b.strict a.text.now a.b.at l.area l.ids l.c l.invariant.0 left in
     let all : l.sizes ≡ sizes_of rs = each-get l.sizes (λ k. size k rs) (λ k. omega (arith, l.invariant.2 k, ap (λ ls. size k (kept_of ls)) e, ap length (size_none k))) in
     let count = all-count a.b.strict a.text.now a.b.at l.area l.ids l.c l.invariant.0 left a.b.line in record {
-      measured = ap₂ measured.Is all count
+      measured = ap₂ kept all count
           ∙ sym (ap (λ o. kept_measured o (sizes_of rs) (length (skipped_from a.text.now a.b))) (l.invariant.1 ∙ ap (unwritable_line (a.b.line + l.c.line)) e));
       room = l.invariant.3;
     }

@@ -1,5 +1,5 @@
 -- `catalogue_lines::put_fields` meets its contract: what is written and what is left to write are the entries of all other fields.
-use Prim.Native.Nat.{◌+◌, ◌-◌, ◌≤◌}
+use Prim.Native.Nat.{◌+◌, ◌≤◌}
 use mathlib.Core.Path.{◌≡◌, refl, sym, ap, ap₂, ◌∙◌}
 use mathlib.Core.Bool.{not, ◌||◌}
 use mathlib.Core.List.{◌++◌}

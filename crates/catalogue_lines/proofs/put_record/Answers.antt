@@ -12,7 +12,7 @@ use Rattle.catalogue_entries.proofs.Written.{entry_length_lem}
 use Rattle.catalogue_lines.specs.Line.{record_bytes, line_bytes}
 use Rattle.catalogue_lines.proofs.Plain.{plain-bytes}
 use Rattle.catalogue_lines.proofs.put_record.Goals as goal
-use Rattle.catalogue_lines.proofs.put_record.Goals.{In-Is, Start}
+use Rattle.catalogue_lines.proofs.put_record.Goals.{In-Some, Start}
 
 same : (s : Start) → (let a = s.args in line_bytes a.strict a.number a.at a.src.now ≡ line_bytes false a.number a.at a.src.now)
 same s = ap (record_bytes s.args.number) (line-lax s.args.strict (record { at = s.args.at; bytes = s.args.src.now }) s.requires.src_value)
@@ -24,12 +24,12 @@ plain_line-requires c = record {
 }
 
 -- the entry of a line that was recognised
-bytes : (k : In-Is)
+bytes : (k : In-Some)
     → (let a = k.args in
-    line_bytes a.strict a.number a.at a.src.now ≡ entry_bytes (ReferenceSequence k.in-Is.name k.in-Is.n a.number))
+    line_bytes a.strict a.number a.at a.src.now ≡ entry_bytes (ReferenceSequence k.in-Some.plain.name k.in-Some.plain.length a.number))
 bytes k =
     let a = k.args in
-    plain-bytes a.strict a.number a.at a.src.now k.requires.src_value k.plain_line.result k.in-Is.name k.in-Is.n k.in-Is.is k.plain_line.ensures
+    plain-bytes a.strict a.number a.at a.src.now k.requires.src_value k.plain_line.result k.in-Some.plain k.in-Some.is k.plain_line.ensures
 
 pub put_formed-requires : goal.put_formed-requires
 put_formed-requires c = record {
@@ -47,13 +47,13 @@ returns-in_default c =
 
 pub put_entry-requires : goal.put_entry-requires
 put_entry-requires c =
-    omega (arith, ap length (bytes (goal.at.put_entry-requires c).In-Is), entry_length_lem (ReferenceSequence c.in-Is.name c.in-Is.n c.args.number), c.requires.src_in_bounds)
+    omega (arith, ap length (bytes (goal.at.put_entry-requires c).In-Some), entry_length_lem (ReferenceSequence c.in-Some.plain.name c.in-Some.plain.length c.args.number), c.requires.src_in_bounds)
 
 pub returns : goal.returns
 returns c =
-    let p = (goal.at.returns c).In-Is in
+    let p = (goal.at.returns c).In-Some in
     let a = c.args in
-    let l = entry_length_lem (ReferenceSequence c.in-Is.name c.in-Is.n a.number) in record {
+    let l = entry_length_lem (ReferenceSequence c.in-Some.plain.name c.in-Some.plain.length a.number) in record {
       next = omega (arith, c.put_entry.ensures.next, ap length (bytes p), l);
       wrote = c.put_entry.ensures.wrote ∙ ap (over a.out.now a.o) (sym (bytes p));
     }

@@ -1,5 +1,5 @@
 -- `catalogue_lines::same_fields` meets its contract: what was compared is there, so that what is left to compare decides.
-use Prim.Native.Nat.{◌+◌, ◌-◌, ◌≤◌}
+use Prim.Native.Nat.{◌+◌, ◌≤◌}
 use mathlib.Core.Path.{◌≡◌, refl, sym, ap, ap₂, ◌∙◌}
 use mathlib.Core.Bool.{false, not, ◌&&◌, ◌||◌}
 use native.Mathlib.Omega.{arith}
@@ -15,7 +15,7 @@ use Rattle.catalogue_entries.proofs.Written.{entry_length_lem}
 use Rattle.catalogue_same.proofs.Starts.{starts_none}
 use Rattle.catalogue_lines.specs.Parts.{field_bytes}
 use Rattle.catalogue_lines.specs.Matched.{met_in, compared_of}
-use Rattle.catalogue_lines.specs.declared.Compared.TheVariants.{Same}
+use Rattle.std.specs.Prelude.{Some}
 use Rattle.catalogue_lines.proofs.Starts.{match-within}
 use Rattle.catalogue_lines.proofs.Entries.{entry-then, compared}
 use Rattle.catalogue_lines.proofs.NextField.{walked_start, walked_end, walked-key, walked-past, same_bytes, Turned, turned}
@@ -189,4 +189,4 @@ returns c =
     let z = walked_end (none? a.tables.now) a.at a.src.now a.kind c.loop-i.i c.loop-i.keys c.loop-i.invariant.0 c.loop-i-test.false in
     let n : c.loop-i.next ≡ a.o + length (field_bytes a.kind a.at a.src.now 3) = omega (arith, c.loop-i.invariant.2, ap length z.1) in
     let t = c.loop-i.invariant.3 ∙ ap (λ x. starts x (drop c.loop-i.next a.catalogue.now)) z.1 ∙ starts_none a.catalogue.now c.loop-i.next in
-    ap₂ (λ n k. Same (record { next = n; keys = k })) n z.0 ∙ sym (ap (λ b. compared_of b (met_in a.kind a.at a.src.now a.o)) t)
+    ap₂ (λ n k. Some (record { next = n; keys = k })) n z.0 ∙ sym (ap (λ b. compared_of b (met_in a.kind a.at a.src.now a.o)) t)

@@ -10,7 +10,7 @@ use Rattle.accepted_line.specs.Form.{IsForm}
 use Rattle.accepted_line.specs.declared.Form.{Form}
 use Rattle.accepted_line.proofs.Noting.{noting, noted-line}
 use Rattle.catalogue_lines.specs.Line.{line_bytes}
-use Rattle.catalogue_lines.proofs.Starts.{match-there, match-gone}
+use Rattle.catalogue_lines.proofs.Starts.{match-told}
 use Rattle.catalogue_lines.proofs.LineEntries.{comment-long}
 use Rattle.catalogue_lines.proofs.same_formed.Goals as goal
 use Rattle.catalogue_lines.proofs.same_formed.Goals.{After-same_entry, Start}
@@ -33,12 +33,15 @@ told c =
     let a = c.args in
     sym (c.same_entry.ensures ∙ ap (λ l. starts l (drop a.o a.catalogue.now)) c.comment_entry-entry.ensures)
 
-pub returns-then-same_entry : goal.returns-then-same_entry
+pub returns-in-Comment : goal.returns-in-Comment
 unfolding IsForm
-returns-then-same_entry c =
+returns-in-Comment c =
     let a = c.args in
-    let i = formed (goal.at.returns-then-same_entry c).Start _ c.in-Comment.is in
-    match-there a.catalogue.now a.o _ (a.o + 13) (omega (arith, comment-long a.place.number a.place.at a.src.now i.accepted i.kind)) (told (goal.at.returns-then-same_entry c).After-same_entry ∙ c.if-same_entry.true)
+    let k = goal.at.returns-in-Comment c in
+    let i = formed k.Start _ c.in-Comment.is in
+    c.then_some.ensures
+    ∙ match-told a.catalogue.now a.o _ c.same_entry.result (a.o + 13) (told k.After-same_entry)
+    (omega (arith, comment-long a.place.number a.place.at a.src.now i.accepted i.kind))
 
 pub same_line-requires : goal.same_line-requires
 unfolding IsForm
@@ -66,11 +69,6 @@ same_line-requires-in-Repeating c =
       walkable = noted-line c.in-Repeating.kind c.args.place.at c.args.src.now i.0 i.1 _ c.note_tags.ensures;
       o_in_bounds = c.requires.o_in_bounds;
     }
-
-pub returns-else-same_entry : goal.returns-else-same_entry
-returns-else-same_entry c =
-    let a = c.args in
-    match-gone a.catalogue.now a.o _ (told (goal.at.returns-else-same_entry c).After-same_entry ∙ c.if-same_entry.false)
 
 pub returns-in-Once : goal.returns-in-Once
 returns-in-Once c = c.same_line.ensures

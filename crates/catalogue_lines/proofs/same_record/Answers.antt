@@ -10,10 +10,10 @@ use Rattle.catalogue_entries.specs.Entries.{kind_byte, kind_size, entry_size, en
 use Rattle.catalogue_entries.proofs.Written.{entry_length_lem}
 use Rattle.catalogue_lines.specs.Line.{record_bytes, line_bytes}
 use Rattle.catalogue_lines.specs.Matched.{matched}
-use Rattle.catalogue_lines.proofs.Starts.{match-there, match-gone}
+use Rattle.catalogue_lines.proofs.Starts.{match-told}
 use Rattle.catalogue_lines.proofs.Plain.{plain-bytes}
 use Rattle.catalogue_lines.proofs.same_record.Goals as goal
-use Rattle.catalogue_lines.proofs.same_record.Goals.{After-same_entry, In-Is}
+use Rattle.catalogue_lines.proofs.same_record.Goals.{After-same_entry, In-Some}
 
 pub plain_line-requires : goal.plain_line-requires
 plain_line-requires c = record {
@@ -22,12 +22,12 @@ plain_line-requires c = record {
 }
 
 -- the entry of a line that was recognised
-bytes : (k : In-Is)
+bytes : (k : In-Some)
     → (let a = k.args in
-    line_bytes a.strict a.number a.at a.src.now ≡ entry_bytes (ReferenceSequence k.in-Is.name k.in-Is.n a.number))
+    line_bytes a.strict a.number a.at a.src.now ≡ entry_bytes (ReferenceSequence k.in-Some.plain.name k.in-Some.plain.length a.number))
 bytes k =
     let a = k.args in
-    plain-bytes a.strict a.number a.at a.src.now k.requires.src_value k.plain_line.result k.in-Is.name k.in-Is.n k.in-Is.is k.plain_line.ensures
+    plain-bytes a.strict a.number a.at a.src.now k.requires.src_value k.plain_line.result k.in-Some.plain k.in-Some.is k.plain_line.ensures
 
 pub same_formed-requires : goal.same_formed-requires
 same_formed-requires c = record {
@@ -49,16 +49,13 @@ told : (c : After-same_entry)
     → (let a = c.args in starts (line_bytes a.strict a.number a.at a.src.now) (drop a.o a.catalogue.now) ≡ c.same_entry.result)
 told c =
     let a = c.args in
-    ap (λ l. starts l (drop a.o a.catalogue.now)) (bytes (goal.at.After-same_entry c).In-Is) ∙ sym c.same_entry.ensures
-
-pub returns-then-same_entry : goal.returns-then-same_entry
-unfolding entry_size kind_byte kind_size
-returns-then-same_entry c =
-    let a = c.args in
-    let l = entry_length_lem (ReferenceSequence c.in-Is.name c.in-Is.n a.number) in
-    match-there a.catalogue.now a.o _ (a.o + 21) (omega (arith, ap length (bytes (goal.at.returns-then-same_entry c).In-Is), l)) (told (goal.at.returns-then-same_entry c).After-same_entry ∙ c.if-same_entry.true)
+    ap (λ l. starts l (drop a.o a.catalogue.now)) (bytes (goal.at.After-same_entry c).In-Some) ∙ sym c.same_entry.ensures
 
 pub returns : goal.returns
+unfolding entry_size kind_byte kind_size
 returns c =
     let a = c.args in
-    match-gone a.catalogue.now a.o _ (told (goal.at.returns c).After-same_entry ∙ c.if-same_entry.false)
+    let k = goal.at.returns c in
+    let l = entry_length_lem (ReferenceSequence c.in-Some.plain.name c.in-Some.plain.length a.number) in
+    c.then_some.ensures
+    ∙ match-told a.catalogue.now a.o _ c.same_entry.result (a.o + 21) (told k.After-same_entry) (omega (arith, ap length (bytes k.In-Some), l))

@@ -12,14 +12,14 @@ use Rattle.catalogue_entries.specs.declared.Place.{Place}
 use Rattle.catalogue_entries.specs.declared.Entry.{Entry}
 use Rattle.catalogue_entries.specs.declared.Entry.TheVariants.{End, Header, ReferenceSequence, ReadGroup, Program, Comment, Field}
 use Rattle.catalogue_entries.specs.Entries.{kind_byte, kind_size, entry_size, entry_of, entries_in}
-use Rattle.catalogue_lookup.specs.declared.Found.TheVariants.{Nothing, At}
+use Rattle.std.specs.Prelude.{None, Some}
 use Rattle.catalogue_lookup.specs.Lookup.{first_entry, value_in}
 use Rattle.catalogue_lookup.proofs.Walks.{front-entry}
 use Rattle.catalogue_lookup.proofs.field_from.Goals as goal
 use Rattle.catalogue_lookup.proofs.field_from.Goals.{In-Field, else-x-a-via-then-x-a+else-y-b, else-x-a-via-else-x-a}
 
 -- no field is first
-no_value_lem : (a b : ℕ) (es : List Entry) → ((x y : ℕ) (p : Place) → first_entry es ≡ Field x y p → ⊥) → Nothing ≡ value_in a b es
+no_value_lem : (a b : ℕ) (es : List Entry) → ((x y : ℕ) (p : Place) → first_entry es ≡ Field x y p → ⊥) → None ≡ value_in a b es
 unfolding value_in first_entry
 no_value_lem a b [] h = refl
 no_value_lem a b (End ∷ es) h = refl
@@ -48,7 +48,7 @@ loop-x-init c = refl
 -- the entry at `at` is a field
 first : (c : In-Field) (a b : ℕ)
     → value_in a b (entries_in (drop c.loop-x.at c.args.catalogue.now))
-    ≡ cond (eqb c.in-Field.x a && eqb c.in-Field.y b) (At c.in-Field.p) (
+    ≡ cond (eqb c.in-Field.x a && eqb c.in-Field.y b) (Some c.in-Field.p) (
     value_in a b (entries_in (drop (c.loop-x.at + 11) c.args.catalogue.now)))
 unfolding value_in
 first c a b = ap (value_in a b) (turn c.args.catalogue.now c.loop-x.at _ _ _ _ c.entry_at.ensures c.in-Field.is)

@@ -7,14 +7,14 @@ use Rattle.catalogue_entries.specs.Entries.{entry_size}
 use Rattle.catalogue_lookup.specs.Lookup.{value_in, field_in}
 use Rattle.catalogue_lookup.proofs.Walks.{found-rest, found_within}
 use Rattle.catalogue_lookup.proofs.CallAnswers.{field_told}
-use Rattle.catalogue_lookup.specs.declared.Found.TheVariants.{Nothing}
+use Rattle.std.specs.Prelude.{None}
 use Rattle.catalogue_lookup.proofs.find_field.Goals as goal
 
 pub returns-then-kind-gt5 : goal.returns-then-kind-gt5
 unfolding field_in
 returns-then-kind-gt5 c =
     let a = c.args in
-    let told = field_told a.catalogue.now a.kind a.ordinal a.a a.b Nothing (rw (lt-ltb _ _ c.if-kind-gt5.true) refl) in
+    let told = field_told a.catalogue.now a.kind a.ordinal a.a a.b None (rw (lt-ltb _ _ c.if-kind-gt5.true) refl) in
     record { is = told.0; answer = told.1 }
 
 pub overflow_add-at : goal.overflow_add-at

@@ -1,11 +1,16 @@
 -- `catalogue_same::has_entry` meets its contract: one arm for each case, and each case's size says that its bytes are there.
-use Prim.Native.Nat.{◌+◌, ◌≤◌}
-use mathlib.Core.Path.{◌≡◌, sym, ap, ◌∙◌}
+use Prim.Native.Nat.{ℕ, ◌+◌, ◌≤◌}
+use mathlib.Core.Path.{◌≡◌, refl, sym, ap, subst, ◌∙◌}
+use mathlib.Core.Logic.{◌⊎◌, inl, inr}
+use mathlib.Core.List.{◌∷◌, ◌++◌}
 use native.Mathlib.Omega.{arith}
 use lib.ListN.{length, drop}
 use Rattle.format.specs.Bytes.{starts}
 use Rattle.catalogue_entries.specs.declared.Entry.{Entry}
-use Rattle.catalogue_entries.specs.Entries.{entry_size, place_bytes, entry_bytes}
+use Rattle.format.specs.Catalogue.{little}
+use Rattle.catalogue_entries.specs.declared.Entry.TheVariants as entry
+use Rattle.catalogue_entries.specs.declared.Place.{Place}
+use Rattle.catalogue_entries.specs.Entries.{kind_byte, kind_size, entry_size, place_bytes, entry_bytes}
 use Rattle.catalogue_same.proofs.Starts.{starts_none}
 use Rattle.catalogue_same.proofs.has_entry.Goals as goal
 use Rattle.catalogue_same.proofs.has_entry.Goals.{Start}
@@ -25,18 +30,6 @@ pub has_sequence-requires : goal.has_sequence-requires
 unfolding entry_size
 has_sequence-requires c = long (goal.at.has_sequence-requires c).Start _ c.in-ReferenceSequence.is
 
-pub has_lined-requires-in-ReadGroup : goal.has_lined-requires-in-ReadGroup
-unfolding entry_size
-has_lined-requires-in-ReadGroup c = long (goal.at.has_lined-requires-in-ReadGroup c).Start _ c.in-ReadGroup.is
-
-pub has_lined-requires-in-Program : goal.has_lined-requires-in-Program
-unfolding entry_size
-has_lined-requires-in-Program c = long (goal.at.has_lined-requires-in-Program c).Start _ c.in-Program.is
-
-pub has_lined-requires-in-Comment : goal.has_lined-requires-in-Comment
-unfolding entry_size
-has_lined-requires-in-Comment c = long (goal.at.has_lined-requires-in-Comment c).Start _ c.in-Comment.is
-
 pub has_field-requires : goal.has_field-requires
 unfolding entry_size
 has_field-requires c = long (goal.at.has_field-requires c).Start _ c.in-Field.is
@@ -54,18 +47,29 @@ pub returns-in-ReferenceSequence : goal.returns-in-ReferenceSequence
 unfolding entry_bytes place_bytes
 returns-in-ReferenceSequence c = c.has_sequence.ensures ∙ same (goal.at.returns-in-ReferenceSequence c).Start _ c.in-ReferenceSequence.is
 
-pub returns-in-ReadGroup : goal.returns-in-ReadGroup
-unfolding entry_bytes place_bytes
-returns-in-ReadGroup c = c.has_lined-in-ReadGroup.ensures ∙ same (goal.at.returns-in-ReadGroup c).Start _ c.in-ReadGroup.is
-
-pub returns-in-Program : goal.returns-in-Program
-unfolding entry_bytes place_bytes
-returns-in-Program c = c.has_lined-in-Program.ensures ∙ same (goal.at.returns-in-Program c).Start _ c.in-Program.is
-
-pub returns-in-Comment : goal.returns-in-Comment
-unfolding entry_bytes place_bytes
-returns-in-Comment c = c.has_lined-in-Comment.ensures ∙ same (goal.at.returns-in-Comment c).Start _ c.in-Comment.is
-
 pub returns-in-Field : goal.returns-in-Field
 unfolding entry_bytes place_bytes
 returns-in-Field c = c.has_field.ensures ∙ same (goal.at.returns-in-Field c).Start _ c.in-Field.is
+
+-- the entry is that of an RG, a PG or a CO
+record Lined (e : Entry) (p : Place) (line : ℕ) : Type 0 where
+  size : entry_size e ≡ 13
+  bytes : kind_byte e ∷ little 4 p.at ++ little 4 p.len ++ little 4 line ≡ entry_bytes e
+
+lined : (e : Entry) (p : Place) (line : ℕ) → (e ≡ entry.ReadGroup p line) ⊎ ((e ≡ entry.Program p line) ⊎ (e ≡ entry.Comment p line)) → Lined e p line
+unfolding entry_size entry_bytes kind_byte place_bytes kind_size
+lined e p line (inl w) = subst (λ d. Lined d p line) (sym w) (record { size = refl; bytes = refl })
+lined e p line (inr (inl w)) = subst (λ d. Lined d p line) (sym w) (record { size = refl; bytes = refl })
+lined e p line (inr (inr w)) = subst (λ d. Lined d p line) (sym w) (record { size = refl; bytes = refl })
+
+pub has_lined-requires-in-ReadGroup : goal.has_lined-requires-in-ReadGroup
+has_lined-requires-in-ReadGroup c = omega (arith, c.requires, (lined c.args.e c.in-ReadGroup.p c.in-ReadGroup.line c.in-ReadGroup.is).size)
+
+pub returns-in-ReadGroup : goal.returns-in-ReadGroup
+returns-in-ReadGroup c =
+    let a = c.args in
+    let p = c.in-ReadGroup.p in
+    let line : ℕ = c.in-ReadGroup.line in
+    c.has_lined-in-ReadGroup.ensures
+    ∙ ap (λ k. starts (k ∷ little 4 p.at ++ little 4 p.len ++ little 4 line) (drop a.at a.s.now)) c.kind_of-kind.ensures
+    ∙ ap (λ l. starts l (drop a.at a.s.now)) (lined a.e p line c.in-ReadGroup.is).bytes

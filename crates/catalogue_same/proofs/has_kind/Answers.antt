@@ -1,5 +1,4 @@
 -- `catalogue_same::has_kind` meets its contract.
-use Prim.Native.Nat.{◌+◌}
 use mathlib.Core.Path.{refl, sym, ◌∙◌}
 use mathlib.Core.List.{◌++◌}
 use native.Mathlib.Omega.{arith}

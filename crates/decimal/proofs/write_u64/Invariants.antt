@@ -1,4 +1,3 @@
-use Prim.Native.Nat.{◌≤◌}
 use mathlib.Core.Path.{◌≡◌}
 use mathlib.Core.List.{[]}
 use lib.ListN.{length}
@@ -8,7 +7,4 @@ use Rattle.decimal.proofs.write_u64.Given as goal
 
 abbrev pub invariant-loop-i : goal.invariant-loop-i
 invariant-loop-i l =
-    (l.i ≤ l.n) × (length l.out ≡ length l.initial.out) × (length (written_f l.i l.rest []) ≡ l.i) × (over l.initial.out l.at (written l.v) ≡ over l.out l.at (written_f l.i l.rest []))
-
-abbrev pub decreases-loop-i : goal.decreases-loop-i
-decreases-loop-i l = l.i
+    (length (written_f l.i l.rest []) ≡ l.i) × (over l.initial.out l.at (written l.v) ≡ over l.out l.at (written_f l.i l.rest []))

@@ -12,7 +12,7 @@ use Rattle.fault_lines.proofs.count_links.Goals as goal
 pub loop-i-init : goal.loop-i-init
 loop-i-init c =
     let ps = c.args.parents.now in
-    (omega (arith, ap (link_count (links_in ps) 0) (let z : length ps - 0 ≡ length ps = omega arith in z)), omega arith, omega arith)
+    (omega (arith, ap (link_count (links_in ps) 0) (let z : length ps - 0 ≡ length ps = omega arith in z)), omega arith)
 
 pub link_fault-requires : goal.link_fault-requires
 link_fault-requires c = record {
@@ -24,13 +24,7 @@ pub one_if-n-requires : goal.one_if-n-requires
 one_if-n-requires c = tt
 
 pub overflow_add-n : goal.overflow_add-n
-overflow_add-n c = let l = c.loop-i in omega (arith, l.invariant.1, l.invariant.2, c.requires.parents_len_bound, c.one_if-n.ensures, one-le c.link_fault.result)
-
-pub overflow_add-i : goal.overflow_add-i
-overflow_add-i c = omega (arith, c.requires.parents_len_bound, c.loop-i-test.true)
-
-pub loop-i-smaller : goal.loop-i-smaller
-loop-i-smaller c = omega (arith, c.loop-i-test.true)
+overflow_add-n c = let l = c.loop-i in omega (arith, l.invariant.1, c.loop-i-test.true, c.requires.parents_len_bound, c.one_if-n.ensures, one-le c.link_fault.result)
 
 pub loop-i-preserved : goal.loop-i-preserved
 loop-i-preserved c =
@@ -41,11 +35,10 @@ loop-i-preserved c =
     let left = ap (link_count (links_in ps) (l.i + 1)) (let z : length ps - l.i - 1 ≡ length ps - (l.i + 1) = omega arith in z) in (
       omega (arith, l.invariant.0, e, left, c.one_if-n.ensures, one-by c.link_fault.result (link_fault (links_in ps) l.i) c.link_fault.ensures),
       omega (arith, l.invariant.1, c.one_if-n.ensures, one-le c.link_fault.result),
-      omega (arith, h),
     )
 
 pub returns : goal.returns
 returns c =
     let l = c.loop-i in
     let ps = c.args.parents.now in
-    omega (arith, l.invariant.0, count_none (links_in ps) l.i (length ps - l.i) (omega (arith, c.loop-i-test.false)))
+    omega (arith, l.invariant.0, count_none (links_in ps) l.i (length ps - l.i) (omega arith))

@@ -6,7 +6,4 @@ use Rattle.fault_lines.proofs.count_links.Given as goal
 
 abbrev pub invariant-loop-i : goal.invariant-loop-i
 invariant-loop-i l =
-    (l.n + link_count (links_in l.parents) l.i (length l.parents - l.i) ≡ link_count (links_in l.parents) 0 (length l.parents)) × (l.n ≤ l.i) × (l.i ≤ length l.parents)
-
-abbrev pub decreases-loop-i : goal.decreases-loop-i
-decreases-loop-i l = length l.parents - l.i
+    (l.n + link_count (links_in l.parents) l.i (length l.parents - l.i) ≡ link_count (links_in l.parents) 0 (length l.parents)) × (l.n ≤ l.i)

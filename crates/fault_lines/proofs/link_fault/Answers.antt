@@ -1,6 +1,9 @@
 -- `fault_lines::link_fault` meets its contract: what is asked from `i` with n steps is asked from `at` with those left.
-use Prim.Native.Nat.{◌<◌}
-use mathlib.Core.Path.{refl, sym, ◌∙◌}
+use Prim.Native.Nat.{◌+◌, ◌-◌, ◌<◌}
+use mathlib.Core.Path.{◌≡◌, ap, sym, ◌∙◌}
+use lib.ListN.{length, get_or}
+use Rattle.format.specs.Programs.{reaches}
+use Rattle.fault_lines.specs.Links.{link_in, links_in}
 use mathlib.Core.Bool.{true, false}
 use native.Mathlib.Omega.{arith}
 use Rattle.program_chains.proofs.Walks.{reaches-none}
@@ -16,43 +19,40 @@ bounds-parents-i c = omega arith
 pub returns-then-at : goal.returns-then-at
 returns-then-at c = sym (fault-stranger c.args.parents.now c.args.i c.requires.i_in_bounds c.if-at.true)
 
-pub loop-left-init : goal.loop-left-init
-loop-left-init c = (c.requires.within c.args.i c.requires.i_in_bounds, refl)
+pub loop-init : goal.loop-init
+loop-init c = (c.requires.within c.args.i c.requires.i_in_bounds, ap (λ n. reaches (links_in c.args.parents.now) c.args.i n (link_in (get_or c.args.parents.now c.args.i 0))) (omega arith))
 
 pub returns-then-at-ge-STRANGER : goal.returns-then-at-ge-STRANGER
 returns-then-at-ge-STRANGER c =
-    let l = c.loop-left in
-    sym (fault_walked c.args.parents.now c.args.i c.requires.i_in_bounds c.if-at.false false (l.invariant.1 ∙ reaches_end _ _ l.left l.at c.if-at-ge-STRANGER.true))
+    let l = c.loop in
+    sym (fault_walked c.args.parents.now c.args.i c.requires.i_in_bounds c.if-at.false false (l.invariant.1 ∙ reaches_end _ _ (length c.args.parents.now - l.counter) l.at c.if-at-ge-STRANGER.true))
 
 pub overflow_cast-k : goal.overflow_cast-k
 overflow_cast-k c = omega arith
 
 pub returns-then-i-k : goal.returns-then-i-k
 returns-then-i-k c =
-    let l = c.loop-left in
+    let l = c.loop in
     let small : l.at < 4294967294 = omega (arith, c.if-at-ge-STRANGER.false) in
-    sym (fault_walked c.args.parents.now c.args.i c.requires.i_in_bounds c.if-at.false true (l.invariant.1 ∙ reaches_here c.args.parents.now l.at l.left small (l.invariant.0 small) c.loop-left-test.true _ c.if-i-k.true))
+    sym (fault_walked c.args.parents.now c.args.i c.requires.i_in_bounds c.if-at.false true (l.invariant.1 ∙ reaches_here c.args.parents.now l.at (length c.args.parents.now - l.counter) small (l.invariant.0 small) (omega arith) _ c.if-i-k.true))
 
 pub offset_bounds-parents-k : goal.offset_bounds-parents-k
 offset_bounds-parents-k c = omega arith
 
 pub bounds-parents-k : goal.bounds-parents-k
-bounds-parents-k c = let l = c.loop-left in l.invariant.0 (omega (arith, c.if-at-ge-STRANGER.false))
+bounds-parents-k c = let l = c.loop in l.invariant.0 (omega (arith, c.if-at-ge-STRANGER.false))
 
-pub overflow_sub-left : goal.overflow_sub-left
-overflow_sub-left c = omega (arith, c.loop-left-test.true)
-
-pub loop-left-smaller : goal.loop-left-smaller
-loop-left-smaller c = omega (arith, c.loop-left-test.true)
-
-pub loop-left-preserved : goal.loop-left-preserved
-loop-left-preserved c =
-    let l = c.loop-left in
+pub loop-preserved : goal.loop-preserved
+loop-preserved c =
+    let l = c.loop in
     let small : l.at < 4294967294 = omega (arith, c.if-at-ge-STRANGER.false) in
     let inside = l.invariant.0 small in
-    (c.requires.within l.at inside, l.invariant.1 ∙ reaches-on c.args.parents.now l.at l.left small inside c.loop-left-test.true _ c.if-i-k.false)
+    let ps = c.args.parents.now in
+    let less : length ps - l.counter - 1 ≡ length ps - (l.counter + 1) = omega arith in
+    let on = reaches-on ps l.at (length ps - l.counter) small inside (omega arith) _ c.if-i-k.false in
+    (c.requires.within l.at inside, l.invariant.1 ∙ on ∙ ap (λ n. reaches (links_in ps) c.args.i n (link_in (get_or ps l.at 0))) less)
 
 pub returns : goal.returns
 returns c =
-    let l = c.loop-left in
-    sym (fault_walked c.args.parents.now c.args.i c.requires.i_in_bounds c.if-at.false false (l.invariant.1 ∙ reaches-none _ _ l.left _ (omega (arith, c.loop-left-test.false))))
+    let l = c.loop in
+    sym (fault_walked c.args.parents.now c.args.i c.requires.i_in_bounds c.if-at.false false (l.invariant.1 ∙ reaches-none _ _ (length c.args.parents.now - l.counter) _ (omega arith)))

@@ -13,8 +13,8 @@ line_size-requires c = record {
   src_bound = c.requires.src_bound;
 }
 
-pub returns-in-Unwritable : goal.returns-in-Unwritable
-returns-in-Unwritable c = sym (plain-bad _ _ (omega (arith, c.if-n-ne0.false)) (sym c.line_size.ensures ∙ c.in-Unwritable.is))
+pub returns-in-None : goal.returns-in-None
+returns-in-None c = sym (plain-bad _ _ (omega (arith, c.if-n-ne0.false)) (sym c.line_size.ensures ∙ c.in-None.is))
 
-pub returns-in-Is : goal.returns-in-Is
-returns-in-Is c = sym (plain-good _ _ _ (omega (arith, c.if-n-ne0.false)) (sym c.line_size.ensures ∙ c.in-Is.is))
+pub returns-in-Some : goal.returns-in-Some
+returns-in-Some c = sym (plain-good _ _ _ (omega (arith, c.if-n-ne0.false)) (sym c.line_size.ensures ∙ c.in-Some.is))

@@ -8,5 +8,5 @@ pub returns-then-text-gt-LONGEST : goal.returns-then-text-gt-LONGEST
 returns-then-text-gt-LONGEST c =
     let a = c.args in
     let t = c.args.text.now in
-    let told = refused_all (faulting t (length a.table.now)) a.table.now 1 (record { 0 = 0 }) (told-long t (length a.table.now) c.if-text-gt-LONGEST.true) in
-    record { answer = told.0; listed = told.1 }
+    let told = refused_all (faulting t (length a.table.now)) a.table.now (record { number = 1; line = record { 0 = 0 } }) (told-long t (length a.table.now) c.if-text-gt-LONGEST.true) in
+    record { answer = rw c.of_text.ensures told.0; listed = told.1 }

@@ -59,8 +59,8 @@ pub returns-then-table-lines : goal.returns-then-table-lines
 returns-then-table-lines c =
     let a = c.args in
     let t = c.args.text.now in
-    let told = refused_all (faulting t (length a.table.now)) a.table.now 20 (record { 0 = 0 }) (told-short t (length a.table.now) c.requires.text_len_bound (omega (arith, counted (goal.at.returns-then-table-lines c).After-count_links, c.if-table-lines.true))) in
-    record { answer = told.0; listed = told.1 }
+    let told = refused_all (faulting t (length a.table.now)) a.table.now (record { number = 20; line = record { 0 = 0 } }) (told-short t (length a.table.now) c.requires.text_len_bound (omega (arith, counted (goal.at.returns-then-table-lines c).After-count_links, c.if-table-lines.true))) in
+    record { answer = rw c.of_text.ensures told.0; listed = told.1 }
 
 pub put_early-requires : goal.put_early-requires
 put_early-requires c = record {

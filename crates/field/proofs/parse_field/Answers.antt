@@ -5,6 +5,7 @@ use native.Mathlib.Omega.{arith}
 use mathlib.Core.List.{List}
 use lib.ListN.{length, get_or, take, drop}
 use borrow.Author.Tests.{not-true, not-false}
+use Rattle.std.specs.Prelude.{Result}
 use Rattle.format.specs.Fields.{field, value_field}
 use Rattle.format.specs.declared.Kind.{Kind}
 use Rattle.byte_slices.specs.Upto.{before}
@@ -33,14 +34,13 @@ pub returns-then-src-lt2 : goal.returns-then-src-lt2
 unfolding parsed_of
 returns-then-src-lt2 c =
     let i = c.args in
-    c.refused.ensures ∙ sym (ap (parsed_of i.kind) (field-in-place i.kind 0 i.src.now ∙ place_short i.kind 0 i.src.now c.if-src-lt2.true))
+    sym (ap (parsed_of i.kind) (field-in-place i.kind 0 i.src.now ∙ place_short i.kind 0 i.src.now c.if-src-lt2.true))
 
 pub returns-then-not-is_tag : goal.returns-then-not-is_tag
 unfolding parsed_of
 returns-then-not-is_tag c =
     let i = c.args in
-    c.refused-then-not-is_tag.ensures
-    ∙ sym
+    sym
     (ap
     (parsed_of i.kind)
     (field-in-place i.kind 0 i.src.now
@@ -50,8 +50,7 @@ pub returns-then-src-eq2 : goal.returns-then-src-eq2
 unfolding parsed_of
 returns-then-src-eq2 c =
     let i = c.args in
-    c.refused-then-src-eq2.ensures
-    ∙ sym
+    sym
     (ap
     (parsed_of i.kind)
     (tagged (goal.at.returns-then-src-eq2 c).Else-not-is_tag ∙ colon-none i.kind _ _ 3 i.src.now c.if-src-eq2.true))
@@ -60,14 +59,13 @@ pub returns-then-src-ne58 : goal.returns-then-src-ne58
 unfolding parsed_of
 returns-then-src-ne58 c =
     let i = c.args in
-    c.refused-then-src-ne58.ensures
-    ∙ sym
+    sym
     (ap
     (parsed_of i.kind)
     (tagged (goal.at.returns-then-src-ne58 c).Else-not-is_tag ∙ colon-other i.kind _ _ 3 i.src.now (omega arith) c.if-src-ne58.true))
 
 -- what is read from the rest of the slice is read from the piece
-at_value : (k : Kind) (s : List ℕ) (r : ParsedField)
+at_value : (k : Kind) (s : List ℕ) (r : Result ParsedField ℕ)
     → field k 0 (before 9 s) ≡ value_field k (get_or s 0 0) (get_or s 1 0) 3 (before 9 (drop 3 s))
     → r ≡ parsed_of k (value_field k (get_or s 0 0) (get_or s 1 0) 3 (before 9 (take (length s - 3) (drop 3 s))))
     → r ≡ parsed_of k (field k 0 (before 9 s))

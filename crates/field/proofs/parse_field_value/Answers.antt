@@ -6,6 +6,7 @@ use mathlib.Core.List.{List}
 use native.Mathlib.Omega.{arith}
 use lib.ListN.{length, take}
 use lib.Seq.{length-take-le}
+use Rattle.std.specs.Prelude.{Ok}
 use Rattle.format.specs.Version.{version}
 use Rattle.byte_slices.proofs.Lines.{upto_le}
 use Rattle.byte_slices.specs.Upto.{upto, before}
@@ -41,7 +42,7 @@ returns-then-is_length c =
 pub returns-then-len-eq0 : goal.returns-then-len-eq0
 returns-then-len-eq0 c =
     let a = c.args in
-    c.refused.ensures ∙ sym (value_none a.a a.b 3 (before 9 a.src.now) a.kind (sym c.is_length.ensures ∙ c.if-is_length.false) (sym c.allowed_len-len.ensures ∙ c.if-len-eq0.true))
+    sym (value_none a.a a.b 3 (before 9 a.src.now) a.kind (sym c.is_length.ensures ∙ c.if-is_length.false) (sym c.allowed_len-len.ensures ∙ c.if-len-eq0.true))
 
 pub slice_bounds-parse_version_value-end : goal.slice_bounds-parse_version_value-end
 slice_bounds-parse_version_value-end c =
@@ -57,8 +58,7 @@ returns-then-is_version c =
 pub returns : goal.returns
 returns c =
     let a = c.args in
-    c.kept.ensures
-    ∙ ap (kept_by a.a a.b) c.allowed_len-len.ensures
+    ap Ok (c.kept.ensures ∙ ap (kept_by a.a a.b) c.allowed_len-len.ensures)
     ∙ sym
     (value-kept a.a a.b 3 (before 9 a.src.now) a.kind (sym c.is_length.ensures ∙ c.if-is_length.false) (sym c.is_version.ensures ∙ c.if-is_version.false)
     (some _ _ _ c.allowed_len-len.ensures c.if-len-eq0.false))

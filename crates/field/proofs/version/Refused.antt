@@ -1,15 +1,15 @@
 -- Where VN of HD is a value that spells no version, its field is refused with the number of that answer.
 use Prim.Native.Nat.{ℕ, suc}
 use mathlib.Core.Path.{◌≡◌, sym, ap, ◌∙◌}
-use mathlib.Core.Bool.{true, cond}
+use mathlib.Core.Bool.{cond}
 use mathlib.Core.List.{List}
 use mathlib.Core.Option.{Option, none, some}
 use native.Mathlib.Omega.{arith}
+use Rattle.std.specs.Prelude as prelude
 use Rattle.format.specs.Version.{version}
-use Rattle.format.specs.Fields.{JudgedPiece, refused_piece, is_value, plain, spelled, version_field}
+use Rattle.format.specs.Fields.{JudgedPiece, refused_piece, plain, spelled, version_field}
 use Rattle.format.specs.declared.Version.{Version}
 use Rattle.format.specs.declared.Kind.TheVariants.{Header}
-use Rattle.field.specs.declared.version.ParsedVersion.{ParsedVersion}
 use Rattle.field.specs.Spelled.{parsed_version_of, version_refusal, VersionTold}
 
 pub version-refused : (v : List ℕ) → VersionTold v (parsed_version_of (version v))
@@ -23,5 +23,5 @@ version-refused v at n i e =
     go (some w) j e = absurd (omega (arith, e))
 
 -- whatever is answered as it is there
-pub version-told : (v : List ℕ) (r : ParsedVersion) → r ≡ parsed_version_of (version v) → (r ≡ parsed_version_of (version v)) × VersionTold v r
+pub version-told : (v : List ℕ) (r : prelude.Option Version) → r ≡ parsed_version_of (version v) → (r ≡ parsed_version_of (version v)) × VersionTold v r
 version-told v r e = (e, λ at n i h. version-refused v at n i (ap version_refusal (sym e) ∙ h))

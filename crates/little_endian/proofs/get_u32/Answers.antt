@@ -1,52 +1,18 @@
--- `little_endian::get_u32` meets its contract: four bytes, each below 256.
-use Prim.Native.Nat.{ℕ, ◌+◌, ◌*◌, ◌<◌}
-use mathlib.Core.Path.{sym}
+-- `little_endian::get_u32` meets its contract: std reads the bytes that are copied.
+use Prim.Native.Nat.{◌+◌, ◌-◌}
+use mathlib.Core.Path.{◌≡◌, ap, ◌∙◌}
 use native.Mathlib.Omega.{arith}
-use lib.ListN.{get_or}
-use Rattle.little_endian.proofs.Little.{of_four}
+use lib.ListN.{length, take, drop, length-drop}
+use lib.Seq.{length-take-le}
+use Rattle.format.specs.Little.{of_little}
+use Rattle.little_endian.proofs.Little.{four-le}
 use Rattle.little_endian.proofs.get_u32.Goals as goal
-use Rattle.little_endian.proofs.get_u32.Goals.{After-shared_slice_known-4-1}
-
-pub overflow_cast-a : goal.overflow_cast-a
-overflow_cast-a c = omega (arith, c.shared_slice_known-1.given c.args.at)
-
-pub overflow_cast-b : goal.overflow_cast-b
-overflow_cast-b c = omega (arith, c.shared_slice_known-2-1.given (c.args.at + 1))
-
-pub overflow_cast-c : goal.overflow_cast-c
-overflow_cast-c c = omega (arith, c.shared_slice_known-3-1.given (c.args.at + 2))
-
-pub overflow_cast-d : goal.overflow_cast-d
-overflow_cast-d c = omega (arith, c.shared_slice_known-4-1.given (c.args.at + 3))
-
--- the whole number fits, and so does each part of it
-fits : (c : After-shared_slice_known-4-1)
-    → get_or c.args.s.now c.args.at 0
-    + 256 * (get_or c.args.s.now (c.args.at + 1) 0
-    + 256 * (get_or c.args.s.now (c.args.at + 2) 0 + 256 * get_or c.args.s.now (c.args.at + 3) 0))
-    < 4294967296
-fits c =
-    let at : ℕ = c.args.at in
-    let known = c.shared_slice_known-4-1.given in
-    omega (arith, known at, known (at + 1), known (at + 2), known (at + 3))
-
-pub overflow_mul-result : goal.overflow_mul-result
-overflow_mul-result c = omega (arith, fits c)
-
-pub overflow_add-result : goal.overflow_add-result
-overflow_add-result c = omega (arith, fits c)
-
-pub overflow_mul-result-2 : goal.overflow_mul-result-2
-overflow_mul-result-2 c = omega (arith, fits c)
-
-pub overflow_add-result-2 : goal.overflow_add-result-2
-overflow_add-result-2 c = omega (arith, fits c)
-
-pub overflow_mul-result-3 : goal.overflow_mul-result-3
-overflow_mul-result-3 c = omega (arith, fits c)
-
-pub overflow_add-result-3 : goal.overflow_add-result-3
-overflow_add-result-3 c = omega (arith, fits c)
 
 pub returns : goal.returns
-returns c = sym (of_four c.args.at c.args.s.now c.requires)
+returns c =
+    let a = c.args in
+    let bytes = c.copy_from_slice.new.self in
+    let z : a.at + 4 - a.at ≡ 4 = omega arith in
+    let p : bytes ≡ take 4 (drop a.at a.s.now) = c.copy_from_slice.ensures.after ∙ ap (λ k. take k (drop a.at a.s.now)) z in
+    let l : length bytes ≡ 4 = ap length p ∙ length-take-le 4 (drop a.at a.s.now) (omega (arith, length-drop a.at a.s.now)) in
+    c.from_le_bytes.ensures ∙ four-le bytes l ∙ ap of_little p

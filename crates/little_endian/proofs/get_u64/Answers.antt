@@ -1,10 +1,18 @@
--- `little_endian::get_u64` meets its contract: the low half, and the high half after it.
-use mathlib.Core.Path.{refl, sym, ◌∙◌}
+-- `little_endian::get_u64` meets its contract: std reads the bytes that are copied.
+use Prim.Native.Nat.{◌+◌, ◌-◌}
+use mathlib.Core.Path.{◌≡◌, ap, ◌∙◌}
 use native.Mathlib.Omega.{arith}
-use Rattle.little_endian.proofs.Little.{of_parts}
+use lib.ListN.{length, take, drop, length-drop}
+use lib.Seq.{length-take-le}
+use Rattle.format.specs.Little.{of_little}
+use Rattle.little_endian.proofs.Little.{eight-le}
 use Rattle.little_endian.proofs.get_u64.Goals as goal
 
 pub returns : goal.returns
 returns c =
     let a = c.args in
-    sym (of_parts 4 4 a.at a.s.now (omega arith) ∙ rw (← c.get_u32-low.ensures, ← c.get_u32-high.ensures) refl)
+    let bytes = c.copy_from_slice.new.self in
+    let z : a.at + 8 - a.at ≡ 8 = omega arith in
+    let p : bytes ≡ take 8 (drop a.at a.s.now) = c.copy_from_slice.ensures.after ∙ ap (λ k. take k (drop a.at a.s.now)) z in
+    let l : length bytes ≡ 8 = ap length p ∙ length-take-le 8 (drop a.at a.s.now) (omega (arith, length-drop a.at a.s.now)) in
+    c.from_le_bytes.ensures ∙ eight-le bytes l ∙ ap of_little p

@@ -1,19 +1,14 @@
--- `little_endian::put_u32` meets its contract: four stores in a row are one `over`.
+-- `little_endian::put_u32` meets its contract: std's bytes are the number's, and they are written as one part.
+use mathlib.Core.Path.{ap, ◌∙◌}
 use native.Mathlib.Omega.{arith}
-use lib.ListN.{length-set}
-use Rattle.format.specs.Catalogue.{little}
-use Rattle.byte_slices.proofs.Over.{over-four}
+use lib.ListN.{length}
+use Rattle.byte_slices.specs.Over.{over}
+use Rattle.byte_slices.proofs.Over.{put_over}
+use Rattle.little_endian.proofs.Little.{le-four}
 use Rattle.little_endian.proofs.put_u32.Goals as goal
 
-pub bounds-out-at-2 : goal.bounds-out-at-2
-bounds-out-at-2 c = simp length-set (omega arith)
-
-pub bounds-out-at-3 : goal.bounds-out-at-3
-bounds-out-at-3 c = simp length-set (omega arith)
-
-pub bounds-out-at-4 : goal.bounds-out-at-4
-bounds-out-at-4 c = simp length-set (omega arith)
-
 pub returns : goal.returns
-unfolding little
-returns c = over-four c.args.out.now c.args.at _ _ _ _ c.requires
+returns c =
+    let a = c.args in
+    let e = c.copy_from_slice.ensures.after ∙ c.to_le_bytes.ensures in
+    put_over a.out.now _ a.at _ (omega (arith, ap length e)) ∙ ap (over a.out.now a.at) (e ∙ le-four a.v)

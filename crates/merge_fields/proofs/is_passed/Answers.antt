@@ -1,6 +1,6 @@
 -- `merge_fields::is_passed` meets its contract.
 use mathlib.Core.Path.{sym, ap, ◌∙◌}
-use mathlib.Core.Bool.{true, false, ◌&&◌, ◌||◌}
+use mathlib.Core.Bool.{◌&&◌, ◌||◌}
 use lib.Dec.{eqb}
 use Rattle.merge_fields.specs.Kept.{is_passed}
 use Rattle.merge_fields.proofs.is_passed.Goals as goal

@@ -1,15 +1,12 @@
 -- `merge_fields::next_field` meets its contract: what is left from the place on is what was left from the start on.
 use Prim.Native.Nat.{◌+◌, ◌-◌, ◌≤◌}
 use mathlib.Core.Path.{◌≡◌, refl, sym, ap, ◌∙◌}
-use mathlib.Core.Bool.{true, false}
 use mathlib.Core.List.{◌∷◌}
 use native.Mathlib.Omega.{arith}
 use lib.ListN.{length, take, drop, get_or}
-use borrow.Author.Tests.{not-true, not-false}
 use Rattle.format.specs.Bytes.{none?}
-use Rattle.lists.proofs.Bools.{never}
 use Rattle.accepted_line.proofs.fields.Place.{next-at, bounds}
-use Rattle.merge_fields.specs.Kept.{is_passed, kept_from, told_field, told_fields}
+use Rattle.merge_fields.specs.Kept.{kept_from, told_field, told_fields}
 use Rattle.merge_fields.proofs.KeptFields.{kept-end, kept-later, kept-passed, kept_next}
 use Rattle.merge_fields.proofs.next_field.Goals as goal
 use Rattle.merge_fields.proofs.next_field.Goals.{After-field_end-end, After-kept_value-v}
@@ -81,7 +78,7 @@ returns-then-is_first_of_tag c =
       place = record {
         value = (field (goal.at.returns-then-is_first_of_tag c).After-kept_value-v).2;
         here = next-at (none? a.tables.now) a.at a.line.now c.loop-i.i c.loop-i.invariant.0 (omega arith) c.field_end-end.result c.field_end-end.ensures;
-        onward = λ e. omega (arith, reach (goal.at.returns-then-is_first_of_tag c).After-field_end-end, c.loop-i.invariant.1);
+        onward = omega (arith, reach (goal.at.returns-then-is_first_of_tag c).After-field_end-end, c.loop-i.invariant.1);
       };
     }
 
@@ -112,5 +109,5 @@ unfolding told_fields
 returns c =
     let a = c.args in record {
       list = c.loop-i.invariant.2 ∙ kept-end (none? a.tables.now) a.at a.line.now c.loop-i.i c.loop-i.invariant.0 c.loop-i-test.false;
-      place = record { value = omega arith; here = c.loop-i.invariant.0; onward = λ e. absurd (never (cc)) };
+      place = tt;
     }

@@ -1,4 +1,4 @@
-use Prim.Native.Nat.{◌-◌, ◌≤◌}
+use Prim.Native.Nat.{◌≤◌}
 use mathlib.Core.Path.{◌≡◌}
 use mathlib.Core.List.{List}
 use lib.ListN.{length}
@@ -6,9 +6,6 @@ use Rattle.format.specs.References.{Reference}
 use Rattle.merge_hints.specs.Hints.{Placed, Marked}
 use Rattle.merge_hints.proofs.enter_block.Given as goal
 
-abbrev pub invariant-loop-left : goal.invariant-loop-left
-invariant-loop-left l =
+abbrev pub invariant-loop : goal.invariant-loop
+invariant-loop l =
     (l.at ≤ length l.b) × Placed l.b l.area × ((rs : List Reference) → Marked l.strict l.b rs l.initial.area → Marked l.strict l.b rs l.area) × (length l.area ≡ length l.initial.area)
-
-abbrev pub decreases-loop-left : goal.decreases-loop-left
-decreases-loop-left l = l.left

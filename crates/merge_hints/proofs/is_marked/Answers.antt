@@ -1,5 +1,5 @@
 -- `merge_hints::is_marked` meets its contract: a slot that has the mark holds the reference.
-use Prim.Native.Nat.{◌+◌, ◌-◌}
+use Prim.Native.Nat.{◌+◌}
 use mathlib.Core.Path.{refl, ap, ◌∙◌}
 use mathlib.Core.Bool.{false≢true}
 use native.Mathlib.Omega.{arith}
@@ -23,41 +23,29 @@ overflow_add-own-2 c = omega (arith, c.requires.at_bound, c.tag.ensures.1, c.tag
 pub nonzero_rem-p : goal.nonzero_rem-p
 nonzero_rem-p c = c.requires.area_nonzero
 
-pub loop-i-init : goal.loop-i-init
-loop-i-init c = (mod-lt c.number-h.result {m = length c.args.area.now} c.requires.area_nonzero, refl)
+pub loop-init : goal.loop-init
+loop-init c = (mod-lt c.number-h.result {m = length c.args.area.now} c.requires.area_nonzero, refl)
 
 pub offset_bounds-area-p : goal.offset_bounds-area-p
 offset_bounds-area-p c = omega arith
 
 pub bounds-area-p : goal.bounds-area-p
-bounds-area-p c = c.loop-i.invariant.0
+bounds-area-p c = c.loop.invariant.0
 
-pub overflow_add-own-in-loop-i : goal.overflow_add-own-in-loop-i
-overflow_add-own-in-loop-i c = omega (arith, c.requires.at_bound, c.tag.ensures.1, c.tag.ensures.2)
+pub overflow_add-own-in-loop : goal.overflow_add-own-in-loop
+overflow_add-own-in-loop c = omega (arith, c.requires.at_bound, c.tag.ensures.1, c.tag.ensures.2)
 
 pub returns-then-v-own : goal.returns-then-v-own
 returns-then-v-own c =
     let a = c.args in
     let k = c.tag.ensures in
-    λ _ strict rs h. marked-at strict a.b.now rs a.area.now c.loop-i.p a.at k.0 c.requires.at_bound k.2 (c.if-v-own.true ∙ ap (λ x. a.at + 1 + x + 2147483648) k.1) h
-
-pub returns-then-v-eq0 : goal.returns-then-v-eq0
-returns-then-v-eq0 c = λ e. absurd (false≢true e)
-
-pub returns-then-v-own-2 : goal.returns-then-v-own-2
-returns-then-v-own-2 c = λ e. absurd (false≢true e)
+    λ _ strict rs h. marked-at strict a.b.now rs a.area.now c.loop.p a.at k.0 c.requires.at_bound k.2 (c.if-v-own.true ∙ ap (λ x. a.at + 1 + x + 2147483648) k.1) h
 
 pub after-p-requires : goal.after-p-requires
-after-p-requires c = c.loop-i.invariant.0
+after-p-requires c = c.loop.invariant.0
 
-pub overflow_add-i : goal.overflow_add-i
-overflow_add-i c = omega (arith, c.loop-i-test.true)
-
-pub loop-i-smaller : goal.loop-i-smaller
-loop-i-smaller c = omega (arith, c.loop-i-test.true)
-
-pub loop-i-preserved : goal.loop-i-preserved
-loop-i-preserved c = (c.after-p.ensures, refl)
+pub loop-preserved : goal.loop-preserved
+loop-preserved c = (c.after-p.ensures, refl)
 
 pub returns : goal.returns
 returns c = λ e. absurd (false≢true e)

@@ -1,9 +1,7 @@
 -- `merge_hints::mark_all` meets its contract: each reference of A marks the slot of the one of B that is like it.
-use Prim.Native.Nat.{◌-◌}
 use mathlib.Core.Path.{◌≡◌, refl, ◌∙◌}
 use mathlib.Core.List.{◌∷◌}
 use native.Mathlib.Omega.{arith}
-use borrow.Author.Tests.{not-false}
 use Rattle.binary_references.specs.Next.{sq_from, told_reference}
 use Rattle.binary_references.proofs.Next.{told-one}
 use Rattle.merge_references.proofs.Names.{from_start, from_next}
@@ -13,36 +11,36 @@ use Rattle.merge_hints.proofs.mark_all.Goals as goal
 pub loop-r-init : goal.loop-r-init
 loop-r-init c = (from_start c.args.strict_a c.args.a.now, c.requires.placed, c.requires.marked, refl)
 
-pub next_reference-r-requires : goal.next_reference-r-requires
-next_reference-r-requires c = record {
+pub next_reference-requires : goal.next_reference-requires
+next_reference-requires c = record {
   text_len_bound = c.requires.a_len_bound.0;
   start_in_bounds = c.loop-r.invariant.0.within;
 }
 
-pub shape_of-area-then-not-r : goal.shape_of-area-then-not-r
-shape_of-area-then-not-r c = c.loop-r.invariant.3
+pub shape_of-area : goal.shape_of-area
+shape_of-area c = c.loop-r.invariant.3
 
-pub returns-then-not-r : goal.returns-then-not-r
-returns-then-not-r c = c.loop-r.invariant.2
+pub returns : goal.returns
+returns c = c.loop-r.invariant.2
 
 pub mark_one-requires : goal.mark_one-requires
 mark_one-requires c = record {
   area_nonzero = omega (arith, c.loop-r.invariant.3, c.requires.area_nonzero);
   b_len_bound = c.requires.b_len_bound;
-  len_in_bounds = c.next_reference-r.ensures.place.name;
+  len_in_bounds = c.in-Some.ensures.place.found.name;
   placed_2 = c.loop-r.invariant.1;
 }
 
 pub loop-r-smaller : goal.loop-r-smaller
-loop-r-smaller c = omega (arith, c.next_reference-r.ensures.place.onward (not-false c.next_reference-r.result.found c.if-not-r.false), c.next_reference-r.ensures.place.within)
+loop-r-smaller c = omega (arith, c.in-Some.ensures.place.found.onward, c.in-Some.ensures.place.found.within)
 
 pub loop-r-preserved : goal.loop-r-preserved
 loop-r-preserved c =
     let a = c.args in
-    let r = c.next_reference-r.result in
+    let r = c.in-Some.r in
     let e : sq_from a.strict_a a.a.now c.loop-r.at ≡ told_reference a.a.now r ∷ sq_from a.strict_a a.a.now r.next =
-    c.next_reference-r.ensures.list ∙ told-one a.strict_a a.a.now r (not-false r.found c.if-not-r.false) in (
-      from_next a.strict_a a.a.now c.loop-r.at r.next (told_reference a.a.now r) c.loop-r.invariant.0 e c.next_reference-r.ensures.place.within,
+    c.in-Some.ensures.list ∙ told-one a.strict_a a.a.now r in (
+      from_next a.strict_a a.a.now c.loop-r.at r.next (told_reference a.a.now r) c.loop-r.invariant.0 e c.in-Some.ensures.place.found.within,
       c.mark_one.ensures.placed,
       c.mark_one.ensures.marked (sq_from a.strict_a a.a.now 0) c.loop-r.invariant.2 (agreed-from a.strict_a a.a.now c.loop-r.at r.next (told_reference a.a.now r) c.loop-r.invariant.0 c.requires.a_len_bound.1 e),
       c.mark_one.auto.area ∙ c.loop-r.invariant.3,

@@ -2,76 +2,55 @@
 use mathlib.Core.Path.{refl, sym, ap, ◌∙◌}
 use mathlib.Core.Bool.{false≢true}
 use mathlib.Core.List.{◌∷◌}
-use borrow.Author.Tests.{not-true, not-false}
-use Rattle.binary_references.specs.Next.{told_reference}
+use Rattle.binary_references.specs.Next.{told_reference, told_list}
 use Rattle.binary_references.proofs.Next.{told-one, told_none}
-use Rattle.merge_joined.proofs.Laws.{passed-spent, passed-new, gone-other, gone-none}
+use Rattle.merge_joined.proofs.Laws.{passed-spent, passed-new, gone-other, gone-none, found-ahead}
 use Rattle.merge_joined.proofs.pass_new.Goals as goal
 
-pub returns-then-not-q : goal.returns-then-not-q
-returns-then-not-q c =
-    let a = c.args in
-    let q = c.next_reference-q.result in
-    let none = c.next_reference-q.ensures.list ∙ told_none a.of.b a.b.now q (not-true q.found c.if-not-q.true) in
-    record {
-      name = c.next_reference-q.ensures.place.name;
-      within = c.next_reference-q.ensures.place.within;
-      passed = λ e rs r. passed-spent rs a.of.b a.b.now a.of.merged a.m.now a.left r none;
-      ahead = λ e d. absurd (false≢true d);
-      first = λ e. absurd (false≢true (sym e));
-      onward = λ e. absurd (false≢true (sym e));
-      gone = λ e. absurd (false≢true (sym e));
+pub returns-in_default : goal.returns-in_default
+returns-in_default c =
+    let a = c.args in record {
+      passed = λ rs r. passed-spent rs a.of.b a.b.now a.of.merged a.m.now a.left r (c.in_default.ensures.list ∙ told_none a.of.b a.b.now);
+      ahead = λ d. absurd (false≢true d);
     }
 
-pub returns-then-same_name : goal.returns-then-same_name
+pub returns-in_default-ahead : goal.returns-in_default-ahead
+returns-in_default-ahead c =
+    let a = c.args in
+    let q = c.in-Some.q in
+    let p = c.in-Some.ensures.place.found in record {
+      name = p.name;
+      within = p.within;
+      first = c.in-Some.ensures.list ∙ told-one a.of.b a.b.now q;
+      onward = p.onward;
+      gone = λ k. gone-none _ k (told_reference a.b.now q) (ap (told_list a.of.merged a.m.now) c.in_default-ahead.is ∙ told_none a.of.merged a.m.now);
+    }
+
+pub returns-then-not-same_name : goal.returns-then-not-same_name
+returns-then-not-same_name c =
+    let a = c.args in
+    let q = c.in-Some.q in
+    let n = c.in-Some-ahead.n in
+    let p = c.in-Some.ensures.place.found in record {
+      name = p.name;
+      within = p.within;
+      first = c.in-Some.ensures.list ∙ told-one a.of.b a.b.now q;
+      onward = p.onward;
+      gone = λ k. gone-other _ _ k (told_reference a.b.now q) (told_reference a.m.now n) (ap (told_list a.of.merged a.m.now) c.in-Some-ahead.is ∙ told-one a.of.merged a.m.now n)
+          (sym c.same_name.ensures ∙ c.if-not-same_name.true);
+    }
+
+pub returns : goal.returns
 unfolding told_reference
-returns-then-same_name c =
+returns c =
     let a = c.args in
-    let q = c.next_reference-q.result in
-    let y = c.next_reference-ahead.result in
-    let found = not-false q.found c.if-not-q.false in
-    let one = c.next_reference-q.ensures.list ∙ told-one a.of.b a.b.now q found in
-    let two = told-one a.of.merged a.m.now a.left.ahead c.if-n.true ∙ ap (λ l. told_reference a.m.now a.left.ahead ∷ l) c.next_reference-ahead.ensures.list in
-    record {
-      name = c.next_reference-q.ensures.place.name;
-      within = c.next_reference-q.ensures.place.within;
-      passed = λ e rs r. passed-new rs a.of.b a.b.now a.of.merged a.m.now a.left r (told_reference a.b.now q) q.next one c.next_reference-q.ensures.place.within
-          (c.next_reference-q.ensures.place.onward found) c.requires.apart (told_reference a.m.now a.left.ahead) y two
-          (record { name = c.next_reference-ahead.ensures.place.name; within = c.next_reference-ahead.ensures.place.within }) (sym c.same_name.ensures ∙ c.if-same_name.true) _ refl;
-      ahead = λ e d. c.next_reference-q.ensures.place.onward found;
-      first = λ e. absurd (false≢true (sym e));
-      onward = λ e. absurd (false≢true (sym e));
-      gone = λ e. absurd (false≢true (sym e));
-    }
-
-pub returns-else-same_name : goal.returns-else-same_name
-returns-else-same_name c =
-    let a = c.args in
-    let q = c.next_reference-q.result in
-    let found = not-false q.found c.if-not-q.false in
-    let one = c.next_reference-q.ensures.list ∙ told-one a.of.b a.b.now q found in
-    record {
-      name = c.next_reference-q.ensures.place.name;
-      within = c.next_reference-q.ensures.place.within;
-      passed = λ e. absurd (false≢true e);
-      ahead = λ e. absurd (false≢true e);
-      first = λ e. one;
-      onward = λ e. c.next_reference-q.ensures.place.onward found;
-      gone = λ e k. gone-other _ _ k (told_reference a.b.now q) (told_reference a.m.now a.left.ahead) (told-one a.of.merged a.m.now a.left.ahead c.if-n.true) (sym c.same_name.ensures ∙ c.if-same_name.false);
-    }
-
-pub returns-else-n : goal.returns-else-n
-returns-else-n c =
-    let a = c.args in
-    let q = c.next_reference-q.result in
-    let found = not-false q.found c.if-not-q.false in
-    let one = c.next_reference-q.ensures.list ∙ told-one a.of.b a.b.now q found in
-    record {
-      name = c.next_reference-q.ensures.place.name;
-      within = c.next_reference-q.ensures.place.within;
-      passed = λ e. absurd (false≢true e);
-      ahead = λ e. absurd (false≢true e);
-      first = λ e. one;
-      onward = λ e. c.next_reference-q.ensures.place.onward found;
-      gone = λ e k. gone-none _ k (told_reference a.b.now q) (told_none a.of.merged a.m.now a.left.ahead c.if-n.false);
+    let q = c.in-Some.q in
+    let n = c.in-Some-ahead.n in
+    let p = c.in-Some.ensures.place.found in
+    let one = c.in-Some.ensures.list ∙ told-one a.of.b a.b.now q in
+    let two = ap (told_list a.of.merged a.m.now) c.in-Some-ahead.is ∙ told-one a.of.merged a.m.now n ∙ ap (λ l. told_reference a.m.now n ∷ l) c.next_reference-2.ensures.list in record {
+      passed = λ rs r. passed-new rs a.of.b a.b.now a.of.merged a.m.now a.left r (told_reference a.b.now q) q.next one p.within p.onward c.requires.apart
+          (told_reference a.m.now n) c.next_reference-2.result two (found-ahead a.of.merged a.m.now n.next c.next_reference-2.result c.next_reference-2.ensures.place)
+          (sym c.same_name.ensures ∙ c.if-not-same_name.false) _ refl;
+      ahead = λ d. p.onward;
     }

@@ -1,7 +1,5 @@
 -- `merge_joined::pass_slots` meets its contract: one step after another, and the first goes on.
-use Prim.Native.Nat.{◌-◌}
 use mathlib.Core.Path.{sym, ◌∙◌}
-use mathlib.Core.Bool.{true, false}
 use native.Mathlib.Omega.{arith}
 use Rattle.binary_references.specs.Next.{sq_from}
 use mathlib.Core.Bool.{false≢true}

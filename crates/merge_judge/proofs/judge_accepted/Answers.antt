@@ -6,18 +6,18 @@ use Rattle.merge_judge.specs.Judged.{which_of, verdict_of, untangling}
 use Rattle.merge_judge.proofs.Steps.{tangles, flows}
 use Rattle.merge_judge.proofs.judge_accepted.Goals as goal
 
-pub returns-then-of_a-ne0 : goal.returns-then-of_a-ne0
+pub returns-in-Err : goal.returns-in-Err
 unfolding verdict_of which_of untangling
-returns-then-of_a-ne0 c =
+returns-in-Err c =
     let a = c.args in
-    sym (ap verdict_of (tangles text_a (λ x. about text_b (untangled_records (records_of a.b.now)) (λ y. about text_merged (untangled_records (records_of a.m.now)) (λ z. judged_merge x y z a.list_a.now a.list_b.now))) (records_of a.a.now) c.open_text-of_a.result.refusal c.open_text-of_a.ensures.refusal c.if-of_a-ne0.true))
+    rw c.of_text.ensures (sym (ap verdict_of (tangles text_a (λ x. about text_b (untangled_records (records_of a.b.now)) (λ y. about text_merged (untangled_records (records_of a.m.now)) (λ z. judged_merge x y z a.list_a.now a.list_b.now))) (records_of a.a.now) c.open_text-of_a.result.tangle c.open_text-of_a.ensures.refusal c.in-Err.number c.in-Err.is)))
 
-pub returns-then-of_b-ne0 : goal.returns-then-of_b-ne0
+pub returns-in-Err-tangle : goal.returns-in-Err-tangle
 unfolding verdict_of which_of untangling
-returns-then-of_b-ne0 c =
+returns-in-Err-tangle c =
     let a = c.args in
-    sym (ap verdict_of (flows text_a (λ x. about text_b (untangled_records (records_of a.b.now)) (λ y. about text_merged (untangled_records (records_of a.m.now)) (λ z. judged_merge x y z a.list_a.now a.list_b.now))) (records_of a.a.now) c.open_text-of_a.result.refusal c.open_text-of_a.ensures.refusal c.if-of_a-ne0.false
-    ∙ tangles text_b (λ y. about text_merged (untangled_records (records_of a.m.now)) (λ z. judged_merge (records_of a.a.now) y z a.list_a.now a.list_b.now)) (records_of a.b.now) c.open_text-of_b.result.refusal c.open_text-of_b.ensures.refusal c.if-of_b-ne0.true))
+    rw c.of_text-in-Err-tangle.ensures (sym (ap verdict_of (flows text_a (λ x. about text_b (untangled_records (records_of a.b.now)) (λ y. about text_merged (untangled_records (records_of a.m.now)) (λ z. judged_merge x y z a.list_a.now a.list_b.now))) (records_of a.a.now) c.open_text-of_a.result.tangle c.open_text-of_a.ensures.refusal c.in_default.not-Err
+    ∙ tangles text_b (λ y. about text_merged (untangled_records (records_of a.m.now)) (λ z. judged_merge (records_of a.a.now) y z a.list_a.now a.list_b.now)) (records_of a.b.now) c.open_text-of_b.result.tangle c.open_text-of_b.ensures.refusal c.in-Err-tangle.number c.in-Err-tangle.is)))
 
 pub open_text-of_m-requires : goal.open_text-of_m-requires
 open_text-of_m-requires c = record {
@@ -25,19 +25,19 @@ open_text-of_m-requires c = record {
   reads_by = c.requires.reads_by_3;
 }
 
-pub returns-then-of_m-ne0 : goal.returns-then-of_m-ne0
+pub returns-in-Err-tangle-2 : goal.returns-in-Err-tangle-2
 unfolding verdict_of which_of untangling
-returns-then-of_m-ne0 c =
+returns-in-Err-tangle-2 c =
     let a = c.args in
-    sym (ap verdict_of (flows text_a (λ x. about text_b (untangled_records (records_of a.b.now)) (λ y. about text_merged (untangled_records (records_of a.m.now)) (λ z. judged_merge x y z a.list_a.now a.list_b.now))) (records_of a.a.now) c.open_text-of_a.result.refusal c.open_text-of_a.ensures.refusal c.if-of_a-ne0.false
-    ∙ flows text_b (λ y. about text_merged (untangled_records (records_of a.m.now)) (λ z. judged_merge (records_of a.a.now) y z a.list_a.now a.list_b.now)) (records_of a.b.now) c.open_text-of_b.result.refusal c.open_text-of_b.ensures.refusal c.if-of_b-ne0.false
-    ∙ tangles text_merged (λ z. judged_merge (records_of a.a.now) (records_of a.b.now) z a.list_a.now a.list_b.now) (records_of a.m.now) c.open_text-of_m.result.refusal c.open_text-of_m.ensures.refusal c.if-of_m-ne0.true))
+    rw c.of_text-in-Err-tangle-2.ensures (sym (ap verdict_of (flows text_a (λ x. about text_b (untangled_records (records_of a.b.now)) (λ y. about text_merged (untangled_records (records_of a.m.now)) (λ z. judged_merge x y z a.list_a.now a.list_b.now))) (records_of a.a.now) c.open_text-of_a.result.tangle c.open_text-of_a.ensures.refusal c.in_default.not-Err
+    ∙ flows text_b (λ y. about text_merged (untangled_records (records_of a.m.now)) (λ z. judged_merge (records_of a.a.now) y z a.list_a.now a.list_b.now)) (records_of a.b.now) c.open_text-of_b.result.tangle c.open_text-of_b.ensures.refusal c.in_default-tangle.not-Err
+    ∙ tangles text_merged (λ z. judged_merge (records_of a.a.now) (records_of a.b.now) z a.list_a.now a.list_b.now) (records_of a.m.now) c.open_text-of_m.result.tangle c.open_text-of_m.ensures.refusal c.in-Err-tangle-2.number c.in-Err-tangle-2.is)))
 
 pub returns : goal.returns
 unfolding untangling
 returns c =
     let a = c.args in
     c.judge_untangled.ensures
-    ∙ sym (ap verdict_of (flows text_a (λ x. about text_b (untangled_records (records_of a.b.now)) (λ y. about text_merged (untangled_records (records_of a.m.now)) (λ z. judged_merge x y z a.list_a.now a.list_b.now))) (records_of a.a.now) c.open_text-of_a.result.refusal c.open_text-of_a.ensures.refusal c.if-of_a-ne0.false
-    ∙ flows text_b (λ y. about text_merged (untangled_records (records_of a.m.now)) (λ z. judged_merge (records_of a.a.now) y z a.list_a.now a.list_b.now)) (records_of a.b.now) c.open_text-of_b.result.refusal c.open_text-of_b.ensures.refusal c.if-of_b-ne0.false
-    ∙ flows text_merged (λ z. judged_merge (records_of a.a.now) (records_of a.b.now) z a.list_a.now a.list_b.now) (records_of a.m.now) c.open_text-of_m.result.refusal c.open_text-of_m.ensures.refusal c.if-of_m-ne0.false))
+    ∙ sym (ap verdict_of (flows text_a (λ x. about text_b (untangled_records (records_of a.b.now)) (λ y. about text_merged (untangled_records (records_of a.m.now)) (λ z. judged_merge x y z a.list_a.now a.list_b.now))) (records_of a.a.now) c.open_text-of_a.result.tangle c.open_text-of_a.ensures.refusal c.in_default.not-Err
+    ∙ flows text_b (λ y. about text_merged (untangled_records (records_of a.m.now)) (λ z. judged_merge (records_of a.a.now) y z a.list_a.now a.list_b.now)) (records_of a.b.now) c.open_text-of_b.result.tangle c.open_text-of_b.ensures.refusal c.in_default-tangle.not-Err
+    ∙ flows text_merged (λ z. judged_merge (records_of a.a.now) (records_of a.b.now) z a.list_a.now a.list_b.now) (records_of a.m.now) c.open_text-of_m.result.tangle c.open_text-of_m.ensures.refusal c.in_default-tangle-2.not-Err))

@@ -8,14 +8,14 @@ use Rattle.format.specs.Merge.{text_b}
 use Rattle.merge_judge.specs.Judged.{which_of, verdict_of, after_second, after_first}
 use Rattle.merge_judge.proofs.Steps.{unread, read}
 use Rattle.merge_judge.proofs.judge_second.Goals as goal
-use Rattle.merge_judge.proofs.judge_second.Goals.{In-Accepted}
+use Rattle.merge_judge.proofs.judge_second.Goals.{In-Ok}
 
 -- the text is accepted
-told : (c : In-Accepted) → Told c.args.b.now c.in-Accepted.field-0 c.in-Accepted.once
+told : (c : In-Ok) → Told c.args.b.now c.in-Ok.accepted
 told c =
-    text-accepted c.args.b.now c.in-Accepted.field-0 c.in-Accepted.once (sym c.judge.ensures ∙ c.in-Accepted.is)
+    text-accepted c.args.b.now c.in-Ok.accepted (sym c.judge.ensures ∙ c.in-Ok.is)
 
-accepted : (c : In-Accepted) → is_accepted (read_text c.args.b.now) ≡ true
+accepted : (c : In-Ok) → is_accepted (read_text c.args.b.now) ≡ true
 unfolding is_accepted
 accepted c = ap is_accepted (told c).reads
 
@@ -27,14 +27,14 @@ judge_merged-requires c = record {
   reads_by_2 = (told c).rule;
 }
 
-pub returns-in-Refused : goal.returns-in-Refused
+pub returns-in-Err : goal.returns-in-Err
 unfolding verdict_of which_of after_first
-returns-in-Refused c =
+returns-in-Err c =
     let a = c.args in
-    sym (ap verdict_of (unread text_b (λ b. after_second (records_of a.a.now) b a.m.now a.list_a.now a.list_b.now) a.b.now c.in-Refused.n c.in-Refused.line.0 (text-refused a.b.now c.in-Refused.n c.in-Refused.line (sym c.judge.ensures ∙ c.in-Refused.is))))
+    sym (ap verdict_of (unread text_b (λ b. after_second (records_of a.a.now) b a.m.now a.list_a.now a.list_b.now) a.b.now c.in-Err.refusal.number c.in-Err.refusal.line.0 (text-refused a.b.now c.in-Err.refusal (sym c.judge.ensures ∙ c.in-Err.is))))
 
-pub returns-in-Accepted : goal.returns-in-Accepted
+pub returns-in-Ok : goal.returns-in-Ok
 unfolding after_first
-returns-in-Accepted c =
+returns-in-Ok c =
     let a = c.args in
-    c.judge_merged.ensures ∙ sym (ap verdict_of (read text_b (λ b. after_second (records_of a.a.now) b a.m.now a.list_a.now a.list_b.now) a.b.now (accepted (goal.at.returns-in-Accepted c).In-Accepted)))
+    c.judge_merged.ensures ∙ sym (ap verdict_of (read text_b (λ b. after_second (records_of a.a.now) b a.m.now a.list_a.now a.list_b.now) a.b.now (accepted (goal.at.returns-in-Ok c).In-Ok)))

@@ -2,7 +2,6 @@
 use mathlib.Core.Path.{◌≡◌, sym, ap, ap₂, ◌∙◌}
 use mathlib.Core.Bool.{true}
 use lib.ListN.{length}
-use borrow.Author.Tests.{not-true, not-false}
 use Rattle.accepted.specs.Read.{records_of}
 use Rattle.format.specs.References.{sq_list}
 use Rattle.binary_references.specs.Next.{sq_from}

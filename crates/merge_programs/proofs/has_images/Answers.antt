@@ -1,11 +1,11 @@
 -- `merge_programs::has_images` meets its contract: what is left from the ordinal on decides.
-use Prim.Native.Nat.{ℕ, ◌+◌, ◌-◌, ◌<◌}
+use Prim.Native.Nat.{ℕ, ◌+◌, ◌<◌}
 use mathlib.Core.Path.{◌≡◌, sym, ap, ap₂, subst, ◌∙◌}
-use mathlib.Core.Bool.{true, false, ◌&&◌, ◌||◌}
+use mathlib.Core.Bool.{◌&&◌, ◌||◌}
 use native.Mathlib.Omega.{arith}
 use lib.ListN.{length, get_or}
 use lib.Dec.{eqb, ltb}
-use borrow.Author.Tests.{not-true, not-false, ltb-true}
+use borrow.Author.Tests.{ltb-true}
 use Rattle.format.specs.Merge.{shapes, is_image, images}
 use Rattle.accepted.specs.Read.{records_of}
 use Rattle.program_chains.specs.Parents.{nobody}
@@ -25,12 +25,6 @@ high s i h = let a = s.args in let n = s.args.of_m.parents.count in ltb-true (ge
 
 pub loop-i-init : goal.loop-i-init
 loop-i-init c = let a = c.args in (omega arith, images-start a.list.now (shapes (records_of a.a.now)) (shapes (records_of a.m.now)))
-
-pub offset_bounds-list-i : goal.offset_bounds-list-i
-offset_bounds-list-i c = omega arith
-
-pub bounds-list-i : goal.bounds-list-i
-bounds-list-i c = omega arith
 
 pub member_at-p-requires : goal.member_at-p-requires
 member_at-p-requires c = omega (arith, c.loop-i-test.true, c.requires.list_len, count-few c.args.a.now c.args.of_a c.requires.untangled)
@@ -72,13 +66,6 @@ pub returns-then-not-is_image : goal.returns-then-not-is_image
 returns-then-not-is_image c =
     let a = c.args in
     sym (told (goal.at.returns-then-not-is_image c).After-is_image ∙ ap (λ b. b && images_from a.list.now (shapes (records_of a.a.now)) (shapes (records_of a.m.now)) (c.loop-i.i + 1)) c.if-not-is_image.true)
-
-pub overflow_add-i : goal.overflow_add-i
-overflow_add-i c =
-    omega (arith, c.loop-i-test.true, c.requires.list_len, count-few c.args.a.now c.args.of_a c.requires.untangled)
-
-pub loop-i-smaller : goal.loop-i-smaller
-loop-i-smaller c = omega (arith, c.loop-i-test.true)
 
 pub loop-i-preserved : goal.loop-i-preserved
 loop-i-preserved c =

@@ -9,6 +9,3 @@ use Rattle.merge_programs.proofs.has_images.Given as goal
 abbrev pub invariant-loop-i : goal.invariant-loop-i
 invariant-loop-i l =
     (l.i ≤ length l.list) × (images l.list (shapes (records_of l.a)) (shapes (records_of l.m)) ≡ images_from l.list (shapes (records_of l.a)) (shapes (records_of l.m)) l.i)
-
-abbrev pub decreases-loop-i : goal.decreases-loop-i
-decreases-loop-i l = length l.list - l.i

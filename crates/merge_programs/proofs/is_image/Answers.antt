@@ -5,7 +5,6 @@ use mathlib.Core.Bool.{◌&&◌}
 use mathlib.Core.List.{List}
 use native.Mathlib.Omega.{arith}
 use lib.ListN.{take, drop}
-use borrow.Author.Tests.{not-true, not-false}
 use Rattle.format.specs.Merge.{keeps_fields, keeps_parent, is_image}
 use Rattle.program_chains.specs.Parents.{link_of}
 use Rattle.program_lines.specs.Line.{FieldsOf}

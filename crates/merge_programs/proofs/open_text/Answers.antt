@@ -31,9 +31,9 @@ found : (c : After-parents_in-parents) → let t = c.args.text.now in c.parents_
 found c =
     c.parents_in-parents.ensures (programs (records_of c.args.text.now)) (placed (goal.at.After-parents_in-parents c).After-gather-gathered)
 
-pub tangle-refusal-requires : goal.tangle-refusal-requires
-tangle-refusal-requires c =
-    record { ps = programs (records_of c.args.text.now); few = few-programs c.args.text.now c.requires.text_value; is = found c }
+pub tangle-tangle-requires : goal.tangle-tangle-requires
+tangle-tangle-requires c =
+    record { ps = programs (records_of c.args.text.now); few = few-programs c.args.text.now c.requires.text_value; is = found (goal.at.tangle-tangle-requires c).After-parents_in-parents }
 
 pub returns : goal.returns
 returns c =
@@ -41,7 +41,7 @@ returns c =
     record {
       accepted = c.requires.text_value;
       rule = c.requires.reads_by;
-      refusal = c.tangle-refusal.ensures (programs (records_of t)) (few-programs t c.requires.text_value) (found (goal.at.returns c).After-parents_in-parents);
+      refusal = c.tangle-tangle.ensures (programs (records_of t)) (few-programs t c.requires.text_value) (found (goal.at.returns c).After-parents_in-parents);
       lines_are = c.gather-gathered.ensures.lines;
       parents-are = found (goal.at.returns c).After-parents_in-parents;
     }

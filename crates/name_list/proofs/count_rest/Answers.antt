@@ -1,34 +1,21 @@
--- `name_list::count_rest` meets its contract: the LFs that were passed, and those that are left.
-use Prim.Native.Nat.{◌-◌}
-use mathlib.Core.Logic.{⊎_elim}
+-- `name_list::count_rest` meets its contract: the LFs are those that the filter lets through.
+use Prim.Native.Nat.{ℕ, ◌-◌}
+use mathlib.Core.Path.{◌≡◌, sym, ap, ◌∙◌}
+use mathlib.Core.List.{List}
 use native.Mathlib.Omega.{arith}
-use Rattle.name_list.proofs.Asked.{ends-none, ends-one, ends_on}
+use lib.ListN.{length, take, drop, length-drop}
+use lib.Seq.{take_all}
+use Rattle.std.specs.Prelude.{count_by, ◌==◌}
+use Rattle.std.proofs.Common.{rules}
+use Rattle.name_list.specs.Ends.{ends}
+use Rattle.name_list.proofs.Asked.{ends-counted, ends-few}
 use Rattle.name_list.proofs.count_rest.Goals as goal
-use Rattle.name_list.proofs.count_rest.Goals.{then-list-i-eq10, else-list-i-eq10}
-
-pub loop-i-init : goal.loop-i-init
-loop-i-init c = (omega arith, omega arith, omega arith)
-
-pub bounds-list-i : goal.bounds-list-i
-bounds-list-i c = omega arith
-
-pub overflow_add-n : goal.overflow_add-n
-overflow_add-n c = omega arith
-
-pub overflow_add-i : goal.overflow_add-i
-overflow_add-i c = omega arith
-
-pub loop-i-smaller : goal.loop-i-smaller
-loop-i-smaller c = omega arith
-
-pub loop-i-preserved : goal.loop-i-preserved
-loop-i-preserved c =
-    let list = c.args.list.now in
-    elim c.if-list-i-eq10.branch [
-      | then-list-i-eq10 w ↦ (omega arith, omega (arith, w.n-is, c.loop-i.invariant.1), omega (arith, w.n-is, c.loop-i.invariant.2, ends-one list c.loop-i.i (omega arith) w.if-list-i-eq10.true))
-      | else-list-i-eq10 w ↦ (omega arith, omega (arith, w.n-is, c.loop-i.invariant.1), omega (arith, w.n-is, c.loop-i.invariant.2, ends_on list c.loop-i.i (omega arith) w.if-list-i-eq10.false))
-    ]
 
 pub returns : goal.returns
 returns c =
-    (omega (arith, c.loop-i.invariant.0, c.loop-i.invariant.1), omega (arith, c.loop-i.invariant.2, ends-none c.args.list.now c.loop-i.i c.loop-i-test.false))
+    let list : List ℕ = c.args.list.now in
+    let rest : List ℕ = drop c.args.from list in
+    let part : List ℕ = take (length list - c.args.from) rest in
+    let n : c.count.result ≡ count_by (λ b. b == 10) part = search rules in
+    let e : c.count.result ≡ ends rest = n ∙ sym (ends-counted part) ∙ ap ends (take_all _ rest (omega (arith, length-drop c.args.from list))) in
+    (omega (arith, e, ends-few rest, length-drop c.args.from list), e)

@@ -37,7 +37,7 @@ pub loop-i-init : goal.loop-i-init
 loop-i-init c =
     let a = c.args in
     let b = begun a.text.now a.slots.now a.name.now c.first_slot-first.result (is-first c) in
-    (omega arith, b.0, b.1)
+    (b.0, b.1)
 
 begins : (c : After-first_slot-first) → c.first_slot-first.result < length c.args.slots.now
 begins c = omega (arith, is-first c, first-lt c.args.slots.now c.args.name.now (some (goal.at.After-first_slot-first c).Start))
@@ -57,14 +57,14 @@ turned-at-requires c = record {
 seen : (c : After-turned-at) → get_or (path c.args.name.now c.args.slots.now) c.loop-i.i 0 ≡ get_or c.args.slots.now c.turned-at.result 0
 seen c =
     let slots = c.args.slots.now in
-    path-at slots c.args.name.now (some (goal.at.After-turned-at c).Start) c.loop-i.i c.loop-i-test.true
+    path-at slots c.args.name.now (some (goal.at.After-turned-at c).Start) c.loop-i.i (omega arith)
     ∙ ap (λ k. get_or slots ((k + c.loop-i.i) % length slots) 0) (sym (is-first (goal.at.After-turned-at c).After-first_slot-first)) ∙ ap (λ k. get_or slots k 0) (sym c.turned-at.ensures)
 
 inside : (c : After-turned-at) → c.turned-at.result < length c.args.slots.now
 inside c = omega (arith, c.turned-at.ensures, mod-lt (c.first_slot-first.result + c.loop-i.i) {m = length c.args.slots.now} (some (goal.at.After-turned-at c).Start))
 
 left : (c : After-turned-at) → c.loop-i.i < length (path c.args.name.now c.args.slots.now)
-left c = omega (arith, long (goal.at.After-turned-at c).After-first_slot-first, c.loop-i-test.true)
+left c = omega (arith, long (goal.at.After-turned-at c).After-first_slot-first)
 
 pub offset_bounds-slots-at : goal.offset_bounds-slots-at
 offset_bounds-slots-at c = omega (arith, inside (goal.at.offset_bounds-slots-at c).After-turned-at, c.requires.slots_len_bound)
@@ -74,7 +74,7 @@ bounds-slots-at c = inside (goal.at.bounds-slots-at c).After-turned-at
 
 -- as many have been looked at as there are slots, at most
 few : (c : After-turned-at) → c.loop-i.i < 33554432
-few c = omega (arith, c.loop-i-test.true, c.requires.slots_len_bound)
+few c = omega (arith, c.requires.slots_len_bound)
 
 pub overflow_add-result : goal.overflow_add-result
 overflow_add-result c = omega (arith, few (goal.at.overflow_add-result c).After-turned-at)
@@ -87,8 +87,8 @@ returns-then-v-eq0 c =
     let p = (goal.at.returns-then-v-eq0 c).After-turned-at in
     let a = c.args in
     let m = missed (path a.name.now a.slots.now) c.loop-i.i (says a.text.now a.name.now) (length a.slots.now) (c.first_slot-first.result + c.loop-i.i) (left p) (seen p ∙ c.if-v-eq0.true) in record {
-      slot = sym (c.loop-i.invariant.1 ∙ m.0 ∙ unfold absent in refl);
-      looks = omega (arith, c.loop-i.invariant.2, m.1);
+      slot = sym (c.loop-i.invariant.0 ∙ m.0 ∙ unfold absent in refl);
+      looks = omega (arith, c.loop-i.invariant.1, m.1);
     }
 
 -- whether the slot holds the name
@@ -116,15 +116,9 @@ returns-then-is_slot_of c =
     let a = c.args in
     let m = found (path a.name.now a.slots.now) c.loop-i.i (says a.text.now a.name.now) (length a.slots.now) (c.first_slot-first.result + c.loop-i.i) (left p)
     (get_or a.slots.now c.turned-at.result 0) (seen p) c.if-v-eq0.false (sym (is_said (goal.at.returns-then-is_slot_of c).After-is_slot_of) ∙ c.if-is_slot_of.true) in record {
-      slot = c.turned-at.ensures ∙ sym (c.loop-i.invariant.1 ∙ m.0);
-      looks = omega (arith, c.loop-i.invariant.2, m.1);
+      slot = c.turned-at.ensures ∙ sym (c.loop-i.invariant.0 ∙ m.0);
+      looks = omega (arith, c.loop-i.invariant.1, m.1);
     }
-
-pub overflow_add-i : goal.overflow_add-i
-overflow_add-i c = omega arith
-
-pub loop-i-smaller : goal.loop-i-smaller
-loop-i-smaller c = omega arith
 
 pub loop-i-preserved : goal.loop-i-preserved
 loop-i-preserved c =
@@ -137,7 +131,7 @@ loop-i-preserved c =
     let n = length a.slots.now in
     let z : f + i + 1 ≡ f + (i + 1) = omega arith in
     let on = passed ss i hit n (f + i) (left p) (get_or a.slots.now c.turned-at.result 0) (seen p) c.if-v-eq0.false (sym (is_said (goal.at.loop-i-preserved c).After-is_slot_of) ∙ c.if-is_slot_of.false) in
-    (omega (arith, c.loop-i-test.true), c.loop-i.invariant.1 ∙ on.0 ∙ ap (λ at. landing hit n at (drop (i + 1) ss)) z, omega (arith, c.loop-i.invariant.2, on.1))
+    (c.loop-i.invariant.0 ∙ on.0 ∙ ap (λ at. landing hit n at (drop (i + 1) ss)) z, omega (arith, c.loop-i.invariant.1, on.1))
 
 pub overflow_cast-result-2 : goal.overflow_cast-result-2
 overflow_cast-result-2 c = omega (arith, c.requires.slots_len_bound)
@@ -145,7 +139,8 @@ overflow_cast-result-2 c = omega (arith, c.requires.slots_len_bound)
 pub returns : goal.returns
 returns c =
     let a = c.args in
-    let m = ended (path a.name.now a.slots.now) c.loop-i.i (says a.text.now a.name.now) (length a.slots.now) (c.first_slot-first.result + c.loop-i.i) (omega (arith, long (goal.at.returns c).After-first_slot-first, c.loop-i-test.false)) in record {
-      slot = sym (c.loop-i.invariant.1 ∙ m.0 ∙ unfold absent in refl);
-      looks = omega (arith, c.loop-i.invariant.2, c.loop-i.invariant.0, c.loop-i-test.false, m.1);
+    let e : c.loop-i.i ≡ length a.slots.now = omega arith in
+    let m = ended (path a.name.now a.slots.now) c.loop-i.i (says a.text.now a.name.now) (length a.slots.now) (c.first_slot-first.result + c.loop-i.i) (omega (arith, long (goal.at.returns c).After-first_slot-first, e)) in record {
+      slot = sym (c.loop-i.invariant.0 ∙ m.0 ∙ unfold absent in refl);
+      looks = omega (arith, c.loop-i.invariant.1, e, m.1);
     }

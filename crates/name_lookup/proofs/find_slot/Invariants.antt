@@ -1,4 +1,4 @@
-use Prim.Native.Nat.{◌+◌, ◌-◌, ◌≤◌}
+use Prim.Native.Nat.{◌+◌}
 use mathlib.Core.Path.{◌≡◌}
 use lib.ListN.{drop}
 use Rattle.format.specs.NameIndex.{first, path, looked}
@@ -7,9 +7,5 @@ use Rattle.name_lookup.proofs.find_slot.Given as goal
 
 abbrev pub invariant-loop-i : goal.invariant-loop-i
 invariant-loop-i l =
-    (l.i ≤ l.n)
-    × (slot_of l.text l.slots l.name ≡ landing (says l.text l.name) l.n (l.first + l.i) (drop l.i (path l.name l.slots)))
+    (slot_of l.text l.slots l.name ≡ landing (says l.text l.name) l.n (l.first + l.i) (drop l.i (path l.name l.slots)))
     × (looks_of l.text l.slots l.name ≡ l.i + looked (says l.text l.name) (drop l.i (path l.name l.slots)))
-
-abbrev pub decreases-loop-i : goal.decreases-loop-i
-decreases-loop-i l = l.n - l.i

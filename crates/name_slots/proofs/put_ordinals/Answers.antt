@@ -1,6 +1,6 @@
 -- `name_slots::put_ordinals` meets its contract: what the notes that are left put is what all put.
-use Prim.Native.Nat.{ℕ, suc, ◌+◌, ◌-◌}
-use mathlib.Core.Path.{◌≡◌, refl, sym, ap, ◌∙◌}
+use Prim.Native.Nat.{ℕ, suc, ◌+◌}
+use mathlib.Core.Path.{◌≡◌, sym, ap, ◌∙◌}
 use native.Mathlib.Omega.{arith}
 use native.Mathlib.Numerals.{add-one}
 use lib.ListN.{length, get_or, drop, set, length-set}
@@ -9,18 +9,6 @@ use Rattle.name_slots.specs.Filled.{with_ordinals}
 use Rattle.name_slots.proofs.Noted.{numbered-end, numbered-on}
 use Rattle.name_slots.proofs.put_ordinals.Goals as goal
 use Rattle.name_slots.proofs.put_ordinals.Goals.{then-at-slots, else-at-slots}
-
-pub loop-k-init : goal.loop-k-init
-loop-k-init c = (omega arith, refl, refl)
-
-pub overflow_cast-slots : goal.overflow_cast-slots
-overflow_cast-slots c = omega (arith, c.loop-k-test.true, c.requires)
-
-pub overflow_add-k : goal.overflow_add-k
-overflow_add-k c = omega (arith, c.loop-k-test.true, c.requires)
-
-pub loop-k-smaller : goal.loop-k-smaller
-loop-k-smaller c = omega (arith, c.loop-k-test.true)
 
 pub loop-k-preserved : goal.loop-k-preserved
 loop-k-preserved c =
@@ -33,14 +21,10 @@ loop-k-preserved c =
       | then-at-slots w ↦ w.slots-is ∙ ap (set slots s) (add-one k)
       | else-at-slots w ↦ w.slots-is ∙ sym (set_out slots s (suc k) w.if-at-slots.false)
     ] in (
-      omega (arith, c.loop-k-test.true),
-      ap length put ∙ length-set slots s (suc k) ∙ c.loop-k.invariant.1,
-      c.loop-k.invariant.2 ∙ numbered-on notes slots k c.loop-k-test.true ∙ ap (with_ordinals (k + 1) (drop (k + 1) notes)) (sym put),
+      ap length put ∙ length-set slots s (suc k) ∙ c.loop-k.invariant.0,
+      c.loop-k.invariant.1 ∙ numbered-on notes slots k (omega arith) ∙ ap (with_ordinals (k + 1) (drop (k + 1) notes)) (sym put),
     )
-
-pub shape_of-slots : goal.shape_of-slots
-shape_of-slots c = c.loop-k.invariant.1
 
 pub returns : goal.returns
 returns c =
-    sym (c.loop-k.invariant.2 ∙ numbered-end c.args.notes.now c.loop-k.slots c.loop-k.k c.loop-k-test.false)
+    sym (c.loop-k.invariant.1 ∙ numbered-end c.args.notes.now c.loop-k.slots c.loop-k.k (omega arith))

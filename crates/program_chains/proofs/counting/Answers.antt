@@ -1,5 +1,5 @@
 -- `program_chains::counting` meets its contract: after i steps the first i ordinals are listed. Assumes nothing.
-use Prim.Native.Nat.{ℕ, ◌+◌, ◌-◌, ◌<◌}
+use Prim.Native.Nat.{ℕ, ◌+◌, ◌<◌}
 use mathlib.Core.Path.{◌≡◌, refl, sym, ap, ◌∙◌}
 use native.Mathlib.Omega.{arith}
 use mathlib.Core.List.{[], ◌∷◌, ◌++◌}
@@ -22,27 +22,12 @@ turn i h =
 
 pub loop-i-init : goal.loop-i-init
 unfolding in_array numbers_from
-loop-i-init c = (omega arith, refl)
-
-pub overflow_cast-list : goal.overflow_cast-list
-overflow_cast-list c = omega arith
-
-pub offset_bounds-list-i : goal.offset_bounds-list-i
-offset_bounds-list-i c = omega arith
-
-pub bounds-list-i : goal.bounds-list-i
-bounds-list-i c = omega arith
-
-pub overflow_add-i : goal.overflow_add-i
-overflow_add-i c = omega arith
-
-pub loop-i-smaller : goal.loop-i-smaller
-loop-i-smaller c = omega arith
+loop-i-init c = refl
 
 pub loop-i-preserved : goal.loop-i-preserved
 loop-i-preserved c =
     let l = c.loop-i in
-    (omega arith, ap (λ r. set r l.i l.i) l.invariant.1 ∙ turn l.i (omega arith))
+    ap (λ r. set r l.i l.i) l.invariant ∙ turn l.i (omega arith)
 
 pub returns : goal.returns
-returns c = c.loop-i.invariant.1 ∙ ap (λ n. in_array (numbers_from 0 n)) (omega arith)
+returns c = c.loop-i.invariant ∙ ap (λ n. in_array (numbers_from 0 n)) (omega arith)

@@ -92,19 +92,12 @@ module _ (ps list places : List ℕ) (count i : ℕ) (x : Listed ps list places 
           rw (last-is (omega arith), found) (swap_places k (count - 1) x.0 places (x.3 k) there (omega (arith, x.2)) sized x.5),
         )
 
-pub counting-list-requires : goal.counting-list-requires
-counting-list-requires c = omega arith
-
-pub counting-places-requires : goal.counting-places-requires
-counting-places-requires c = omega arith
-
-pub loop-i-init : goal.loop-i-init
-loop-i-init c =
+pub loop-k-init : goal.loop-k-init
+loop-k-init c =
     let ps = c.args.parents.now in
     let few = c.requires.parents_len_bound in
     let n = length ps in
     let there = c.counting-places.ensures in (
-      omega arith,
       omega arith,
       ap length there ∙ array-length (numbers_from 0 n) (omega (arith, counting-length 0 n)),
       (
@@ -117,63 +110,33 @@ loop-i-init c =
       ),
     )
 
-pub offset_bounds-parents-i : goal.offset_bounds-parents-i
-offset_bounds-parents-i c = omega arith
-
-pub bounds-parents-i : goal.bounds-parents-i
-bounds-parents-i c = omega arith
-
 pub slice_bounds-list-end : goal.slice_bounds-list-end
 slice_bounds-list-end c =
-    let l = c.loop-i in
+    let l = c.loop-k in
     let a = c.args.parents.now in
-    fits a l.list l.places l.count l.i l.invariant.3 (omega arith)
+    fits a l.list l.places l.count l.k-index l.invariant.2 (omega arith)
 
 pub slice_bounds-place-end : goal.slice_bounds-place-end
 slice_bounds-place-end c =
-    let l = c.loop-i in
+    let l = c.loop-k in
     let a = c.args.parents.now in
-    sym (ap length (lent a l.list l.places l.count l.i l.invariant.3) ∙ l.invariant.3.2)
+    sym (ap length (lent a l.list l.places l.count l.k-index l.invariant.2) ∙ l.invariant.2.2)
 
 pub place-at-requires : goal.place-at-requires
 place-at-requires c =
-    let l = c.loop-i in
+    let l = c.loop-k in
     let a = c.args.parents.now in
-    let below = within-at (length a) a l.i c.requires.parents_value (omega arith) c.if-k.true in record {
-      has_places = lent-places a l.list l.places l.count l.i l.invariant.3;
+    let below = within-at (length a) a l.k-index c.requires.parents_value (omega arith) c.if-k.true in record {
+      has_places = lent-places a l.list l.places l.count l.k-index l.invariant.2;
       x_bound = omega (arith, below, c.requires.parents_len_bound);
     }
 
-pub overflow_sub-count : goal.overflow_sub-count
-overflow_sub-count c = omega arith
-
-pub offset_bounds-list-count : goal.offset_bounds-list-count
-offset_bounds-list-count c = omega arith
-
-pub bounds-list-count : goal.bounds-list-count
-bounds-list-count c = omega arith
-
-pub offset_bounds-list-at : goal.offset_bounds-list-at
-offset_bounds-list-at c = omega arith
-
-pub bounds-list-at : goal.bounds-list-at
-bounds-list-at c = omega arith
-
-pub offset_bounds-list-count-then-at-count : goal.offset_bounds-list-count-then-at-count
-offset_bounds-list-count-then-at-count c = omega arith
-
-pub bounds-list-count-then-at-count : goal.bounds-list-count-then-at-count
-bounds-list-count-then-at-count c = omega arith
-
-pub overflow_cast-places : goal.overflow_cast-places
-overflow_cast-places c = omega arith
-
 -- the last of the list
-last_fits : (c : Then-at-count) → let l = c.loop-i in get_or l.list (l.count - 1) 0 < 1024
+last_fits : (c : Then-at-count) → let l = c.loop-k in get_or l.list (l.count - 1) 0 < 1024
 last_fits c =
-    let l = c.loop-i in
+    let l = c.loop-k in
     let a = c.args.parents.now in
-    last-below a l.list l.places l.count l.i l.invariant.3 (omega arith)
+    last-below a l.list l.places l.count l.k-index l.invariant.2 (omega arith)
 
 pub overflow_cast-places-then-at-count : goal.overflow_cast-places-then-at-count
 overflow_cast-places-then-at-count c = omega (arith, last_fits c)
@@ -184,12 +147,6 @@ offset_bounds-places-last c = omega (arith, last_fits c)
 pub bounds-places-last : goal.bounds-places-last
 bounds-places-last c = last_fits c
 
-pub overflow_add-i : goal.overflow_add-i
-overflow_add-i c = omega arith
-
-pub loop-i-smaller : goal.loop-i-smaller
-loop-i-smaller c = omega arith
-
 -- what a turn leaves, by whether the program has a parent `k`, and whether that is listed: `at` is its place
 module _ (ps list list' places places' : List ℕ) (count count' i k at : ℕ) (small : i < length ps) (few : count ≤ length ps) (short : length ps ≤ 1024)
     (sized : length places ≡ 1024) (x : Listed ps list places count i) (p : k ≡ get_or ps i 0) (f : at ≡ index_in k (take count list)) where
@@ -197,20 +154,19 @@ module _ (ps list list' places places' : List ℕ) (count count' i k at : ℕ) (
       → ((k ≡ 4294967295 → ⊥) → at < count → places' ≡ set places (get_or list (count - 1) 0) at)
       → ((k ≡ 4294967295 → ⊥) → at < count → count' ≡ count - 1)
       → (k ≡ 4294967295 ⊎ count ≤ at → list' ≡ list) → (k ≡ 4294967295 ⊎ count ≤ at → places' ≡ places) → (k ≡ 4294967295 ⊎ count ≤ at → count' ≡ count)
-      → (i + 1 ≤ length ps) × (count' ≤ length ps) × (length places' ≡ 1024) × Listed ps list' places' count' (i + 1)
+      → (count' ≤ length ps) × (length places' ≡ 1024) × Listed ps list' places' count' (i + 1)
   turned l₁ p₁ c₁ l₂ p₂ c₂ = go (eqb k 4294967295) refl (ltb at count) refl
     where
       go : (t : Bool) → eqb k 4294967295 ≡ t → (u : Bool) → ltb at count ≡ u
-          → (i + 1 ≤ length ps) × (count' ≤ length ps) × (length places' ≡ 1024) × Listed ps list' places' count' (i + 1)
+          → (count' ≤ length ps) × (length places' ≡ 1024) × Listed ps list' places' count' (i + 1)
       go true q u r =
           let e = eqb-true k 4294967295 q in
           let n = c₂ (inl e) in
-          (omega arith, omega arith, rw (p₂ (inl e)) sized, rw (l₂ (inl e), p₂ (inl e), n) (skipped ps list places count i x small (sym p ∙ e)))
+          (omega arith, rw (p₂ (inl e)) sized, rw (l₂ (inl e), p₂ (inl e), n) (skipped ps list places count i x small (sym p ∙ e)))
       go false q true r =
           let e = eqb-false k 4294967295 q in
           let g = ltb-true at count r in
           let n = c₁ e g in (
-            omega arith,
             omega arith,
             rw (p₁ e g) (length-set places (get_or list (count - 1) 0) at ∙ sized),
             rw (l₁ e g, p₁ e g, n) (swapped ps list places count i x k at small e p f g (omega arith) sized),
@@ -219,19 +175,19 @@ module _ (ps list list' places places' : List ℕ) (count count' i k at : ℕ) (
           let e = eqb-false k 4294967295 q in
           let g = ltb-false at count r in
           let n = c₂ (inr g) in
-          (omega arith, omega arith, rw (p₂ (inr g)) sized, rw (l₂ (inr g), p₂ (inr g), n) (absent ps list places count i x k at small e p f g))
+          (omega arith, rw (p₂ (inr g)) sized, rw (l₂ (inr g), p₂ (inr g), n) (absent ps list places count i x k at small e p f g))
 
-pub loop-i-preserved : goal.loop-i-preserved
-loop-i-preserved c =
-    let l = c.loop-i in
+pub loop-k-preserved : goal.loop-k-preserved
+loop-k-preserved c =
+    let l = c.loop-k in
     let a = c.args.parents.now in
-    let k = get_or a l.i 0 in
-    turned a l.list _ l.places _ l.count _ l.i k (index_in k (take l.count l.list))
-    (omega arith) l.invariant.1 c.requires.parents_len_bound l.invariant.2 l.invariant.3 refl refl
+    let k = get_or a l.k-index 0 in
+    turned a l.list _ l.places _ l.count _ l.k-index k (index_in k (take l.count l.list))
+    (omega arith) l.invariant.0 c.requires.parents_len_bound l.invariant.1 l.invariant.2 refl refl
     (λ e g. grind arith) (λ e g. grind arith) (λ e g. grind arith)
     (λ e. grind arith) (λ e. grind arith) (λ e. grind arith)
 
 pub returns : goal.returns
 returns c =
-    let l = c.loop-i in
-    all c.args.parents.now l.list l.places l.count l.i l.invariant.3 (omega arith)
+    let l = c.loop-k in
+    all c.args.parents.now l.list l.places l.count l.k-index l.invariant.2 (omega arith)

@@ -1,4 +1,4 @@
-use Prim.Native.Nat.{ℕ, ◌-◌, ◌≤◌}
+use Prim.Native.Nat.{ℕ, ◌≤◌}
 use mathlib.Core.Path.{◌≡◌}
 use mathlib.Core.List.{List}
 use lib.ListN.{length, drop}
@@ -12,8 +12,5 @@ abbrev pub Listed : List ℕ → List ℕ → List ℕ → ℕ → ℕ → Type 
 Listed ps list places count i =
     (xs : List ℕ) × (list ≡ in_array xs) × (length xs ≡ count) × Once xs × (leaves (links_of ps) ≡ leaves_from xs (links_of (drop i ps))) × HasPlaces places xs
 
-abbrev pub invariant-loop-i : goal.invariant-loop-i
-invariant-loop-i l = (l.i ≤ length l.parents) × (l.count ≤ length l.parents) × (length l.places ≡ 1024) × Listed l.parents l.list l.places l.count l.i
-
-abbrev pub decreases-loop-i : goal.decreases-loop-i
-decreases-loop-i l = length l.parents - l.i
+abbrev pub invariant-loop-k : goal.invariant-loop-k
+invariant-loop-k l = (l.count ≤ length l.parents) × (length l.places ≡ 1024) × Listed l.parents l.list l.places l.count l.k-index

@@ -1,5 +1,5 @@
 -- `program_chains::roots` meets its contract: the roots listed, and those from `i` on, are all. Assumes nothing.
-use Prim.Native.Nat.{ℕ, ◌+◌, ◌-◌, ◌≤◌, ◌<◌}
+use Prim.Native.Nat.{ℕ, ◌+◌, ◌≤◌, ◌<◌}
 use mathlib.Core.Path.{◌≡◌, refl, sym, ap, ◌∙◌}
 use mathlib.Core.List.{List, [], ◌∷◌, ◌++◌, append-nil}
 use mathlib.Core.Bool.{Bool, true, false}
@@ -47,57 +47,33 @@ module _ (ps list : List ℕ) (count i : ℕ) (x : Listed ps list count i) where
 
 pub loop-i-init : goal.loop-i-init
 unfolding in_array roots
-loop-i-init c = (omega arith, omega arith, ([], refl, refl, refl))
-
-pub offset_bounds-parents-i : goal.offset_bounds-parents-i
-offset_bounds-parents-i c = omega arith
-
-pub bounds-parents-i : goal.bounds-parents-i
-bounds-parents-i c = omega arith
-
-pub overflow_cast-list : goal.overflow_cast-list
-overflow_cast-list c = omega arith
-
-pub offset_bounds-list-count : goal.offset_bounds-list-count
-offset_bounds-list-count c = omega arith
-
-pub bounds-list-count : goal.bounds-list-count
-bounds-list-count c = omega arith
-
-pub overflow_add-count : goal.overflow_add-count
-overflow_add-count c = omega arith
-
-pub overflow_add-i : goal.overflow_add-i
-overflow_add-i c = omega arith
-
-pub loop-i-smaller : goal.loop-i-smaller
-loop-i-smaller c = omega arith
+loop-i-init c = (omega arith, ([], refl, refl, refl))
 
 -- what a turn leaves, by whether the program has a parent
 module _ (ps list list' : List ℕ) (count count' i : ℕ) (small : i < length ps) (few : length ps ≤ 1024) (most : count ≤ i) (x : Listed ps list count i) where
   turned : (get_or ps i 0 ≡ 4294967295 → list' ≡ set list count i) → (get_or ps i 0 ≡ 4294967295 → count' ≡ count + 1)
       → ((get_or ps i 0 ≡ 4294967295 → ⊥) → list' ≡ list) → ((get_or ps i 0 ≡ 4294967295 → ⊥) → count' ≡ count)
-      → (i + 1 ≤ length ps) × (count' ≤ i + 1) × Listed ps list' count' (i + 1)
+      → (count' ≤ i + 1) × Listed ps list' count' (i + 1)
   turned more grown same left = go (eqb (get_or ps i 0) 4294967295) refl
     where
-      go : (t : Bool) → eqb (get_or ps i 0) 4294967295 ≡ t → (i + 1 ≤ length ps) × (count' ≤ i + 1) × Listed ps list' count' (i + 1)
+      go : (t : Bool) → eqb (get_or ps i 0) 4294967295 ≡ t → (count' ≤ i + 1) × Listed ps list' count' (i + 1)
       go true q =
           let e = eqb-true (get_or ps i 0) 4294967295 q in
           let n = grown e in
-          (omega arith, omega arith, rw (more e, n) (pushed ps list count i x small (omega arith) e))
+          (omega arith, rw (more e, n) (pushed ps list count i x small (omega arith) e))
       go false q =
           let e = eqb-false (get_or ps i 0) 4294967295 q in
           let n = left e in
-          (omega arith, omega arith, rw (same e, n) (kept ps list count i x small e))
+          (omega arith, rw (same e, n) (kept ps list count i x small e))
 
 pub loop-i-preserved : goal.loop-i-preserved
 loop-i-preserved c =
     let l = c.loop-i in
-    turned c.args.parents.now l.list _ l.count _ l.i (omega arith) (omega arith) l.invariant.1 l.invariant.2
+    turned c.args.parents.now l.list _ l.count _ l.i (omega arith) (omega arith) l.invariant.0 l.invariant.1
     (λ e. grind arith) (λ e. grind arith) (λ e. grind arith) (λ e. grind arith)
 
 pub returns : goal.returns
 returns c =
     let a = c.args.parents.now in
     let l = c.loop-i in
-    all a l.list l.count l.i l.invariant.2 (omega arith)
+    all a l.list l.count l.i l.invariant.1 (omega arith)

@@ -1,4 +1,4 @@
-use Prim.Native.Nat.{ℕ, ◌+◌, ◌-◌, ◌≤◌}
+use Prim.Native.Nat.{ℕ, ◌≤◌}
 use mathlib.Core.Path.{◌≡◌}
 use mathlib.Core.List.{List, ◌++◌}
 use lib.ListN.{length, drop}
@@ -11,7 +11,4 @@ abbrev pub Listed : List ℕ → List ℕ → ℕ → ℕ → Type 0
 Listed ps list count i = (xs : List ℕ) × (list ≡ in_array xs) × (length xs ≡ count) × (roots (links_of ps) ≡ xs ++ roots_from i (links_of (drop i ps)))
 
 abbrev pub invariant-loop-i : goal.invariant-loop-i
-invariant-loop-i l = (l.i ≤ length l.parents) × (l.count ≤ l.i) × Listed l.parents l.list l.count l.i
-
-abbrev pub decreases-loop-i : goal.decreases-loop-i
-decreases-loop-i l = length l.parents - l.i
+invariant-loop-i l = (l.count ≤ l.i) × Listed l.parents l.list l.count l.i

@@ -1,4 +1,4 @@
-use Prim.Native.Nat.{◌+◌, ◌<◌}
+use Prim.Native.Nat.{◌+◌, ◌-◌, ◌<◌}
 use mathlib.Core.Path.{◌≡◌}
 use lib.ListN.{length}
 use Rattle.format.specs.Programs.{depth}
@@ -6,8 +6,5 @@ use Rattle.program_chains.specs.Parents.{link_of, links_of}
 use Rattle.program_depths.specs.Depths.{deep}
 use Rattle.program_depths.proofs.climb.Given as goal
 
-abbrev pub invariant-loop-left : goal.invariant-loop-left
-invariant-loop-left l = ((l.at ≡ 4294967295 → ⊥) → l.at < length l.parents) × (l.steps + l.left ≡ length l.parents) × (deep l.parents l.i ≡ l.steps + depth (links_of l.parents) l.left (link_of l.at))
-
-abbrev pub decreases-loop-left : goal.decreases-loop-left
-decreases-loop-left l = l.left
+abbrev pub invariant-loop-steps : goal.invariant-loop-steps
+invariant-loop-steps l = ((l.at ≡ 4294967295 → ⊥) → l.at < length l.parents) × (deep l.parents l.i ≡ l.steps + depth (links_of l.parents) (length l.parents - l.steps) (link_of l.at))

@@ -1,4 +1,4 @@
-use Prim.Native.Nat.{◌+◌, ◌*◌, ◌-◌, ◌≤◌}
+use Prim.Native.Nat.{◌+◌, ◌*◌, ◌≤◌}
 use mathlib.Core.Path.{◌≡◌}
 use lib.ListN.{length, drop}
 use Rattle.format.specs.Programs.{depths, hops}
@@ -9,7 +9,4 @@ use Rattle.program_depths.proofs.find_depths.Given as goal
 
 abbrev pub invariant-loop-i : goal.invariant-loop-i
 invariant-loop-i l =
-    (l.i ≤ length l.parents) × (l.sum ≤ 1024 * l.i) × (hops (links_of l.parents) ≡ l.sum + depths (links_of l.parents) (links_of (drop l.i l.parents))) × KnownRight l.parents l.list × Reached l.list l.i × (length l.list ≡ 1024) × Behind l.list (length l.parents)
-
-abbrev pub decreases-loop-i : goal.decreases-loop-i
-decreases-loop-i l = length l.parents - l.i
+    (l.hops ≤ 1024 * l.i) × (hops (links_of l.parents) ≡ l.hops + depths (links_of l.parents) (links_of (drop l.i l.parents))) × KnownRight l.parents l.list × Reached l.list l.i × (length l.list ≡ 1024) × Behind l.list (length l.parents)

@@ -8,66 +8,60 @@ use Rattle.program_depths.specs.Depths.{deep}
 use Rattle.program_depths.proofs.Deep.{deep-below, deep-up}
 use Rattle.program_depths.proofs.Noting.{noted-set, kept_set, kept_same}
 use Rattle.program_depths.proofs.settle.Goals as goal
-use Rattle.program_depths.proofs.settle.Goals.{In-loop-left}
+use Rattle.program_depths.proofs.settle.Goals.{In-loop-depth}
 
-pub loop-left-init : goal.loop-left-init
-loop-left-init c = (c.requires.i_in_bounds.0, c.requires.i_in_bounds.1, c.requires.i_in_bounds.2, c.requires.known_right, kept_same c.args.depths.now, refl)
+pub loop-depth-init : goal.loop-depth-init
+loop-depth-init c = (c.requires.i_in_bounds.0, c.requires.i_in_bounds.1, c.requires.i_in_bounds.2, c.requires.known_right, kept_same c.args.depths.now, refl)
 
 -- the parent
-abbrev ps : (c : In-loop-left) → List ℕ
+abbrev ps : (c : In-loop-depth) → List ℕ
 ps c = c.args.parents.now
 
-abbrev at : (c : In-loop-left) → ℕ
-at c = c.loop-left.at
+abbrev at : (c : In-loop-depth) → ℕ
+at c = c.loop-depth.at
 
-abbrev left : (c : In-loop-left) → ℕ
-left c = c.loop-left.left
+abbrev left : (c : In-loop-depth) → ℕ
+left c = c.loop-depth.depth
 
-below : (c : In-loop-left) → get_or (ps c) (at c) 0 < length (ps c)
-below c = deep-below (ps c) c.requires.parents_value (at c) c.loop-left.invariant.0 (omega (arith, c.loop-left.invariant.1)) (omega (arith, c.loop-left.invariant.1))
+below : (c : In-loop-depth) → get_or (ps c) (at c) 0 < length (ps c)
+below c = deep-below (ps c) c.requires.parents_value (at c) c.loop-depth.invariant.0 (omega (arith, c.loop-depth.invariant.1)) (omega (arith, c.loop-depth.invariant.1))
 
-up : (c : In-loop-left) → (left c) ≡ suc (deep (ps c) (get_or (ps c) (at c) 0))
-up c = c.loop-left.invariant.1 ∙ deep-up (ps c) c.requires.parents_value (at c) c.loop-left.invariant.0 (omega (arith, c.loop-left.invariant.1)) (omega (arith, c.loop-left.invariant.1))
+up : (c : In-loop-depth) → (left c) ≡ suc (deep (ps c) (get_or (ps c) (at c) 0))
+up c = c.loop-depth.invariant.1 ∙ deep-up (ps c) c.requires.parents_value (at c) c.loop-depth.invariant.0 (omega (arith, c.loop-depth.invariant.1)) (omega (arith, c.loop-depth.invariant.1))
 
 pub offset_bounds-parents-at : goal.offset_bounds-parents-at
-offset_bounds-parents-at c = omega (arith, c.loop-left.invariant.0)
+offset_bounds-parents-at c = omega (arith, c.loop-depth.invariant.0)
 
 pub bounds-parents-at : goal.bounds-parents-at
-bounds-parents-at c = c.loop-left.invariant.0
+bounds-parents-at c = c.loop-depth.invariant.0
 
 pub overflow_cast-k : goal.overflow_cast-k
-overflow_cast-k c = omega (arith, below (goal.at.overflow_cast-k c).In-loop-left)
+overflow_cast-k c = omega (arith, below (goal.at.overflow_cast-k c).In-loop-depth)
 
 pub offset_bounds-depths-k : goal.offset_bounds-depths-k
-offset_bounds-depths-k c = omega (arith, below (goal.at.offset_bounds-depths-k c).In-loop-left)
+offset_bounds-depths-k c = omega (arith, below (goal.at.offset_bounds-depths-k c).In-loop-depth)
 
 pub bounds-depths-k : goal.bounds-depths-k
-bounds-depths-k c = omega (arith, below (goal.at.bounds-depths-k c).In-loop-left)
+bounds-depths-k c = omega (arith, below (goal.at.bounds-depths-k c).In-loop-depth)
 
 pub returns-then-depths-k : goal.returns-then-depths-k
-returns-then-depths-k c = let l = c.loop-left in record {
+returns-then-depths-k c = let l = c.loop-depth in record {
   noted = l.invariant.3;
   kept = l.invariant.4;
   sized = l.invariant.5;
 }
 
-pub overflow_sub-left : goal.overflow_sub-left
-overflow_sub-left c = omega arith
+pub offset_bounds-depths-k-in-loop-depth : goal.offset_bounds-depths-k-in-loop-depth
+offset_bounds-depths-k-in-loop-depth c = omega (arith, below (goal.at.offset_bounds-depths-k-in-loop-depth c).In-loop-depth)
 
-pub offset_bounds-depths-k-in-loop-left : goal.offset_bounds-depths-k-in-loop-left
-offset_bounds-depths-k-in-loop-left c = omega (arith, below (goal.at.offset_bounds-depths-k-in-loop-left c).In-loop-left)
+pub bounds-depths-k-in-loop-depth : goal.bounds-depths-k-in-loop-depth
+bounds-depths-k-in-loop-depth c = omega (arith, below (goal.at.bounds-depths-k-in-loop-depth c).In-loop-depth)
 
-pub bounds-depths-k-in-loop-left : goal.bounds-depths-k-in-loop-left
-bounds-depths-k-in-loop-left c = omega (arith, below (goal.at.bounds-depths-k-in-loop-left c).In-loop-left)
-
-pub loop-left-smaller : goal.loop-left-smaller
-loop-left-smaller c = omega arith
-
-pub loop-left-preserved : goal.loop-left-preserved
-loop-left-preserved c =
-    let p = (goal.at.loop-left-preserved c).In-loop-left in
-    let l = c.loop-left in
-    let less : l.left ≡ suc (deep (ps p) (get_or (ps p) (at p) 0)) = up p in (
+pub loop-depth-preserved : goal.loop-depth-preserved
+loop-depth-preserved c =
+    let p = (goal.at.loop-depth-preserved c).In-loop-depth in
+    let l = c.loop-depth in
+    let less : l.depth ≡ suc (deep (ps p) (get_or (ps p) (at p) 0)) = up p in (
       below p,
       omega (arith, less),
       omega (arith, l.invariant.2),
@@ -77,7 +71,7 @@ loop-left-preserved c =
     )
 
 pub returns : goal.returns
-returns c = let l = c.loop-left in record {
+returns c = let l = c.loop-depth in record {
   noted = l.invariant.3;
   kept = l.invariant.4;
   sized = l.invariant.5;

@@ -1,5 +1,5 @@
 -- `program_depths::unknown` meets its contract: after some steps as many depths are not known. Assumes nothing.
-use Prim.Native.Nat.{ℕ, ◌+◌, ◌-◌, ◌<◌}
+use Prim.Native.Nat.{ℕ, ◌+◌, ◌<◌}
 use mathlib.Core.Path.{◌≡◌, refl, sym, ap, ◌∙◌}
 use native.Mathlib.Omega.{arith}
 use lib.ListN.{set, replicate, length-replicate, replicate-append-replicate}
@@ -15,27 +15,15 @@ turn i v h =
 
 pub loop-at-init : goal.loop-at-init
 unfolding in_array
-loop-at-init c = (omega arith, refl)
-
-pub offset_bounds-list-at : goal.offset_bounds-list-at
-offset_bounds-list-at c = omega arith
-
-pub bounds-list-at : goal.bounds-list-at
-bounds-list-at c = omega arith
-
-pub overflow_add-at : goal.overflow_add-at
-overflow_add-at c = omega arith
-
-pub loop-at-smaller : goal.loop-at-smaller
-loop-at-smaller c = omega arith
+loop-at-init c = refl
 
 pub loop-at-preserved : goal.loop-at-preserved
 loop-at-preserved c =
     let l = c.loop-at in
-    (omega arith, ap (λ r. set r l.at 4294967295) l.invariant.1 ∙ turn l.at 4294967295 (omega arith))
+    ap (λ r. set r l.at 4294967295) l.invariant ∙ turn l.at 4294967295 (omega arith)
 
 pub returns : goal.returns
 returns c =
     let l = c.loop-at in
     let all : l.at ≡ c.args.n = omega arith in
-    l.invariant.1 ∙ ap (λ n. in_array (replicate n 4294967295)) all
+    l.invariant ∙ ap (λ n. in_array (replicate n 4294967295)) all

@@ -1,5 +1,5 @@
 -- `program_ids::list_ids` meets its contract: the first `k` IDs are listed.
-use Prim.Native.Nat.{◌+◌, ◌-◌, ◌*◌, ◌≤◌, ◌<◌}
+use Prim.Native.Nat.{◌+◌, ◌*◌, ◌≤◌, ◌<◌}
 use native.Mathlib.Omega.{arith}
 use lib.ListN.{length, get_or, length-set}
 use Rattle.program_ids.specs.Places.{places_of}
@@ -83,12 +83,6 @@ offset_bounds-list-row-in-loop-k-2 c = omega (arith, few (goal.at.offset_bounds-
 
 pub bounds-list-row-in-loop-k-2 : goal.bounds-list-row-in-loop-k-2
 bounds-list-row-in-loop-k-2 c = simp length-set (room (goal.at.bounds-list-row-in-loop-k-2 c).In-loop-k)
-
-pub overflow_add-k : goal.overflow_add-k
-overflow_add-k c = omega (arith, few (goal.at.overflow_add-k c).In-loop-k)
-
-pub loop-k-smaller : goal.loop-k-smaller
-loop-k-smaller c = omega (arith, early (goal.at.loop-k-smaller c).In-loop-k)
 
 pub loop-k-preserved : goal.loop-k-preserved
 loop-k-preserved c =

@@ -1,7 +1,5 @@
 -- `program_lines::next_program` meets its contract: the lines from the start on are those still to come.
-use Prim.Native.Nat.{◌-◌}
 use mathlib.Core.Path.{refl, sym, ap, ◌∙◌}
-use mathlib.Core.Bool.{false≢true}
 use native.Mathlib.Omega.{arith}
 use Rattle.byte_slices.specs.First.{first_line}
 use Rattle.byte_slices.proofs.Before.{rest}
@@ -48,7 +46,7 @@ unfolding told_lines told_line
 returns-then-may_be_program c =
     let u = turned (goal.at.returns-then-may_be_program c).After-first_line-cut in record {
       list = c.loop-at.invariant.2 ∙ u.first (sym c.may_be_program.ensures ∙ c.if-may_be_program.true);
-      place = record { line = u.inside; onward = λ e. omega (arith, c.loop-at.invariant.0, u.onward); within = u.within };
+      place = record { line = u.inside; onward = omega (arith, c.loop-at.invariant.0, u.onward); within = u.within };
     }
 
 pub loop-at-smaller : goal.loop-at-smaller
@@ -62,7 +60,5 @@ loop-at-preserved c =
 pub returns : goal.returns
 unfolding told_lines
 returns c =
-    let a = c.args in record {
-      list = c.loop-at.invariant.2 ∙ pg-none a.text.now c.loop-at.at c.loop-at-test.false;
-      place = record { line = omega arith; onward = λ e. absurd (false≢true e); within = c.loop-at.invariant.1 };
-    }
+    let a = c.args in
+    record { list = c.loop-at.invariant.2 ∙ pg-none a.text.now c.loop-at.at c.loop-at-test.false; place = tt }

@@ -2,14 +2,15 @@
 use Prim.Native.Nat.{ℕ, ◌+◌, ◌-◌}
 use mathlib.Core.Path.{◌≡◌, refl, sym, ap, ◌∙◌}
 use mathlib.Core.List.{List}
-use mathlib.Core.Option.{Option, none, some}
+use mathlib.Core.Option as maybe
+use mathlib.Core.Option.{none, some}
+use Rattle.std.specs.Prelude.{Option, Some, None}
 use native.Mathlib.Omega.{arith}
 use lib.ListN.{take, drop}
 use borrow.Author.Tests.{eq-eqb, ne_eqb}
 use Rattle.program_chains.specs.Parents.{nobody}
 use Rattle.catalogue_entries.specs.declared.Place.{Place}
-use Rattle.program_ids.specs.declared.Named.{Named}
-use Rattle.program_ids.specs.declared.Named.TheVariants.{Nobody, Is}
+use Rattle.format.specs.declared.ProgramNo.{ProgramNo}
 use Rattle.program_ids.specs.Places.{bytes_at}
 use Rattle.program_ids.specs.Ids.{ids_at}
 use Rattle.program_ids.specs.Search.{id_ordinal_from, named_of}
@@ -18,24 +19,24 @@ use Rattle.program_parents.proofs.find_parent.Goals as goal
 use Rattle.program_parents.proofs.find_parent.Goals.{After-find_program}
 
 -- a program that is found, as a parent's number
-number : Named → ℕ
-number Nobody = stranger
-number (Is k) = k.0
+number : Option ProgramNo → ℕ
+number None = stranger
+number (Some k) = k.0
 
-number-named : (o : Option ℕ) → number (named_of o) ≡ or_stranger o
+number-named : (o : maybe.Option ℕ) → number (named_of o) ≡ or_stranger o
 unfolding number named_of or_stranger
 number-named none = refl
 number-named (some k) = refl
 
 -- the bytes that are lent are those at the place
-parent-found : (t : List ℕ) (ids : List (List ℕ)) (p : Place) (n : Named) → (p.at ≡ 4294967295 → ⊥)
+parent-found : (t : List ℕ) (ids : List (List ℕ)) (p : Place) (n : Option ProgramNo) → (p.at ≡ 4294967295 → ⊥)
     → n ≡ named_of (id_ordinal_from (take (p.at + p.len - p.at) (drop p.at t)) 0 ids) → parent_of t ids p ≡ number n
 unfolding parent_of bytes_at
 parent-found t ids p n h e =
     let z : p.at + p.len - p.at ≡ p.len = omega arith in
     rw (ne_eqb p.at 4294967295 h) (sym (number-named (id_ordinal_from (bytes_at t p) 0 ids)) ∙ ap (λ m. number (named_of (id_ordinal_from (take m (drop p.at t)) 0 ids))) (sym z) ∙ ap number (sym e))
 
-answered : (c : After-find_program) (n : Named) → c.find_program.result ≡ n
+answered : (c : After-find_program) (n : Option ProgramNo) → c.find_program.result ≡ n
     → let a = c.args in
     parent_of a.text.now (ids_at a.text.now a.ids.now) a.previous ≡ number n
 answered c n e =
@@ -49,10 +50,10 @@ returns-then-previous-eq-NOWHERE c = rw (eq-eqb _ _ c.if-previous-eq-NOWHERE.tru
 pub slice_bounds-find_program-end : goal.slice_bounds-find_program-end
 slice_bounds-find_program-end c = omega (arith, c.requires.somewhere c.if-previous-eq-NOWHERE.false)
 
-pub returns-in-Nobody : goal.returns-in-Nobody
+pub returns-in-None : goal.returns-in-None
 unfolding number stranger
-returns-in-Nobody c = sym (answered (goal.at.returns-in-Nobody c).After-find_program Nobody c.in-Nobody.is)
+returns-in-None c = sym (answered (goal.at.returns-in-None c).After-find_program None c.in-None.is)
 
-pub returns-in-Is : goal.returns-in-Is
+pub returns-in-Some : goal.returns-in-Some
 unfolding number
-returns-in-Is c = sym (answered (goal.at.returns-in-Is c).After-find_program (Is c.in-Is.k) c.in-Is.is)
+returns-in-Some c = sym (answered (goal.at.returns-in-Some c).After-find_program (Some c.in-Some.k) c.in-Some.is)

@@ -1,5 +1,5 @@
 -- `program_parents::find_parents` meets its contract: the parents of the first `i` programs are listed.
-use Prim.Native.Nat.{ℕ, ◌+◌, ◌-◌, ◌≤◌, ◌<◌}
+use Prim.Native.Nat.{ℕ, ◌+◌, ◌≤◌, ◌<◌}
 use mathlib.Core.Path.{◌≡◌, sym, subst, ◌∙◌}
 use mathlib.Core.List.{List}
 use native.Mathlib.Omega.{arith}
@@ -42,7 +42,7 @@ pub overflow_mul-end : goal.overflow_mul-end
 overflow_mul-end c = omega (arith, few (goal.at.overflow_mul-end c).Start)
 
 pub loop-i-init : goal.loop-i-init
-loop-i-init c = (λ ps x. found_none ps, omega arith)
+loop-i-init c = λ ps x. found_none ps
 
 -- ---- in a step of the loop
 
@@ -93,12 +93,6 @@ offset_bounds-list-i c = omega (arith, few (goal.at.offset_bounds-list-i c).Star
 pub bounds-list-i : goal.bounds-list-i
 bounds-list-i c = omega (arith, few (goal.at.bounds-list-i c).Start)
 
-pub overflow_add-i : goal.overflow_add-i
-overflow_add-i c = omega (arith, few (goal.at.overflow_add-i c).Start)
-
-pub loop-i-smaller : goal.loop-i-smaller
-loop-i-smaller c = omega (arith, c.loop-i-test.true)
-
 pub loop-i-preserved : goal.loop-i-preserved
 loop-i-preserved c =
     let o = (goal.at.loop-i-preserved c).Start in
@@ -107,16 +101,14 @@ loop-i-preserved c =
     let b = c.list_ids in
     let p = c.find_parent-parent in
     let more : (ps : List Program) (x : PlacesOf t ps (held o)) → (l.i < length ps) × (p.result ≡ link_number (get_or (links ps) l.i root)) =
-    λ ps x. (omega (arith, own-count t ps (held o) x), p.ensures ∙ own-parent t ps (held o) x l.i (omega arith) c.requires.fits _ (listed-are t ps (held o) x zeros b.new.list (omega arith) b.ensures)) in (
-      (λ ps x. elim c.if-parent.branch [
-        | then-parent w ↦ subst (λ d. Found ps (set l.list l.i p.result) d (l.i + 1)) (sym w.dangling-is) (found-stray ps x.few l.list l.dangling l.i (l.invariant.0 ps x) (more ps x).0 p.result (more ps x).1 w.if-parent.true)
-        | else-parent w ↦ subst (λ d. Found ps (set l.list l.i p.result) d (l.i + 1)) (sym w.dangling-is) (found-known ps x.few l.list l.dangling l.i (l.invariant.0 ps x) (more ps x).0 p.result (more ps x).1 w.if-parent.false)
-      ]),
-      omega arith,
-    )
+    λ ps x. (omega (arith, own-count t ps (held o) x), p.ensures ∙ own-parent t ps (held o) x l.i (omega arith) c.requires.fits _ (listed-are t ps (held o) x zeros b.new.list (omega arith) b.ensures)) in
+    (λ ps x. elim c.if-parent.branch [
+      | then-parent w ↦ subst (λ d. Found ps (set l.list l.i p.result) d (l.i + 1)) (sym w.dangling-is) (found-stray ps x.few l.list l.dangling l.i (l.invariant ps x) (more ps x).0 p.result (more ps x).1 w.if-parent.true)
+      | else-parent w ↦ subst (λ d. Found ps (set l.list l.i p.result) d (l.i + 1)) (sym w.dangling-is) (found-known ps x.few l.list l.dangling l.i (l.invariant ps x) (more ps x).0 p.result (more ps x).1 w.if-parent.false)
+    ])
 
 pub returns : goal.returns
 returns c = λ ps x.
     let l = c.loop-i in
     let m = own-count c.args.text.now ps (held (goal.at.returns c).Start) x in
-    found_all ps l.list l.dangling l.i c.args.count (l.invariant.0 ps x) (omega (arith, m, c.loop-i-test.false, l.invariant.1)) m
+    found_all ps l.list l.dangling l.i c.args.count (l.invariant ps x) (omega (arith, m, c.loop-i-test.false)) m

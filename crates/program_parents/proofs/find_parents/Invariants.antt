@@ -1,4 +1,3 @@
-use Prim.Native.Nat.{◌-◌, ◌≤◌}
 use mathlib.Core.List.{List}
 use Rattle.format.specs.Programs.{Program}
 use Rattle.program_places.specs.Gathered.{programs_in}
@@ -8,7 +7,4 @@ use Rattle.program_parents.proofs.find_parents.Given as goal
 
 abbrev pub invariant-loop-i : goal.invariant-loop-i
 invariant-loop-i l =
-    ((ps : List Program) → PlacesOf l.text ps (programs_in l.ats l.lens l.from l.widths l.count) → Found ps l.list l.dangling l.i) × (l.i ≤ l.count)
-
-abbrev pub decreases-loop-i : goal.decreases-loop-i
-decreases-loop-i l = l.count - l.i
+    (ps : List Program) → PlacesOf l.text ps (programs_in l.ats l.lens l.from l.widths l.count) → Found ps l.list l.dangling l.i

@@ -1,5 +1,5 @@
 -- `program_walks::has_cycle` meets its contract: what is asked of all programs is asked of those from `i` on. Assumes nothing.
-use Prim.Native.Nat.{ℕ, ◌+◌, ◌-◌, ◌≤◌, ◌<◌}
+use Prim.Native.Nat.{ℕ, ◌+◌, ◌≤◌, ◌<◌}
 use mathlib.Core.Path.{◌≡◌, refl, sym, ap, ◌∙◌}
 use mathlib.Core.Bool.{true, false, ◌||◌}
 use mathlib.Core.List.{List}
@@ -27,7 +27,7 @@ module _ (ps : List ℕ) (i : ℕ) where
   spent h = rw drop_of_length-le refl
 
 pub loop-i-init : goal.loop-i-init
-loop-i-init c = (omega arith, refl)
+loop-i-init c = refl
 
 pub comes_back-requires : goal.comes_back-requires
 comes_back-requires c = record {
@@ -38,18 +38,12 @@ comes_back-requires c = record {
 pub returns-then-comes_back : goal.returns-then-comes_back
 returns-then-comes_back c =
     let l = c.loop-i in
-    sym (l.invariant.1 ∙ found _ l.i (omega arith) (sym c.comes_back.ensures ∙ c.if-comes_back.true))
-
-pub overflow_add-i : goal.overflow_add-i
-overflow_add-i c = omega arith
-
-pub loop-i-smaller : goal.loop-i-smaller
-loop-i-smaller c = omega arith
+    sym (l.invariant ∙ found _ l.i (omega arith) (sym c.comes_back.ensures ∙ c.if-comes_back.true))
 
 pub loop-i-preserved : goal.loop-i-preserved
 loop-i-preserved c =
     let l = c.loop-i in
-    (omega arith, l.invariant.1 ∙ passed _ l.i (omega arith) (sym c.comes_back.ensures ∙ c.if-comes_back.false))
+    l.invariant ∙ passed _ l.i (omega arith) (sym c.comes_back.ensures ∙ c.if-comes_back.false)
 
 pub returns : goal.returns
-returns c = sym (c.loop-i.invariant.1 ∙ spent _ c.loop-i.i (omega arith))
+returns c = sym (c.loop-i.invariant ∙ spent _ c.loop-i.i (omega arith))

@@ -1,5 +1,5 @@
 -- `program_walks::hops` meets its contract: the links counted, and those of the programs from `i` on, are all. Assumes nothing.
-use Prim.Native.Nat.{ℕ, ◌+◌, ◌-◌, ◌≤◌, ◌<◌}
+use Prim.Native.Nat.{ℕ, ◌+◌, ◌≤◌, ◌<◌}
 use mathlib.Core.Path.{◌≡◌, refl, sym, ap}
 use mathlib.Core.List.{List}
 use native.Mathlib.Omega.{arith}
@@ -23,7 +23,7 @@ module _ (ps : List ℕ) (i : ℕ) where
 
 pub loop-i-init : goal.loop-i-init
 unfolding hops
-loop-i-init c = (omega arith, omega arith, omega arith)
+loop-i-init c = (omega arith, omega arith)
 
 pub depth-sum-requires : goal.depth-sum-requires
 depth-sum-requires c = record {
@@ -40,17 +40,11 @@ at_most c =
 pub overflow_add-sum : goal.overflow_add-sum
 overflow_add-sum c = omega (arith, at_most c)
 
-pub overflow_add-i : goal.overflow_add-i
-overflow_add-i c = omega arith
-
-pub loop-i-smaller : goal.loop-i-smaller
-loop-i-smaller c = omega arith
-
 pub loop-i-preserved : goal.loop-i-preserved
 loop-i-preserved c =
     let l = c.loop-i in
     let a = c.args.parents.now in
-    (omega arith, omega (arith, at_most c), omega (arith, l.invariant.2, turn a l.i (omega arith), c.depth-sum.ensures))
+    (omega (arith, at_most c), omega (arith, l.invariant.1, turn a l.i (omega arith), c.depth-sum.ensures))
 
 pub returns : goal.returns
-returns c = omega (arith, c.loop-i.invariant.2, spent c.args.parents.now c.loop-i.i (omega arith))
+returns c = omega (arith, c.loop-i.invariant.1, spent c.args.parents.now c.loop-i.i (omega arith))

@@ -5,7 +5,6 @@ use mathlib.Core.List.{List}
 use lib.ListN.{length}
 use Rattle.format.specs.Programs.{Program, programs}
 use Rattle.accepted.specs.Read.{records_of}
-use Rattle.program_depths.proofs.Noting.{cycle-is}
 use Rattle.program_parents.proofs.Own.{few-programs}
 use Rattle.program_parents.proofs.Road.{lent-count, lent-inside, lent-few, lent-within}
 use Rattle.programs_by_table.proofs.Finding.{found-dangling, found-cycle, found-leaves}
@@ -34,18 +33,18 @@ slice_bounds-links-end c =
     let p = (goal.at.slice_bounds-links-end c).After-parents_of-parents in
     lent-count (ps p) (few p) c.parents_of-parents.result c.parents_of-parents.ensures
 
-pub find_depths-known-requires : goal.find_depths-known-requires
-find_depths-known-requires c =
-    let p = (goal.at.find_depths-known-requires c).After-parents_of-parents in
+pub find_depths-requires : goal.find_depths-requires
+find_depths-requires c =
+    let p = (goal.at.find_depths-requires c).After-parents_of-parents in
     record {
       parents_value = lent-within (ps p) (few p) c.parents_of-parents.result c.parents_of-parents.ensures c.if-parents.false;
       parents_len_bound = lent-few (ps p) (few p) c.parents_of-parents.result c.parents_of-parents.ensures;
     }
 
-pub returns-then-known : goal.returns-then-known
-returns-then-known c =
-    let p = (goal.at.returns-then-known c).After-parents_of-parents in
-    found-cycle (ps p) (few p) c.parents_of-parents.result c.parents_of-parents.ensures c.if-parents.false (sym (cycle-is _ c.find_depths-known.result c.find_depths-known.ensures) ∙ c.if-known.true) c.nothing-then-known.result c.nothing-then-known.ensures
+pub returns-in_default : goal.returns-in_default
+returns-in_default c =
+    let p = (goal.at.returns-in_default c).After-parents_of-parents in
+    found-cycle (ps p) (few p) c.parents_of-parents.result c.parents_of-parents.ensures c.if-parents.false (sym c.in_default.is ∙ c.find_depths.ensures) c.nothing-in_default.result c.nothing-in_default.ensures
 
 pub leaves-leaves-requires : goal.leaves-leaves-requires
 leaves-leaves-requires c =
@@ -58,5 +57,5 @@ leaves-leaves-requires c =
 pub returns : goal.returns
 returns c =
     let p = (goal.at.returns c).After-parents_of-parents in
-    found-leaves (ps p) (few p) c.parents_of-parents.result c.parents_of-parents.ensures c.if-parents.false c.find_depths-known.result c.find_depths-known.ensures c.if-known.false
+    found-leaves (ps p) (few p) c.parents_of-parents.result c.parents_of-parents.ensures c.if-parents.false c.in-Some.known (sym c.in-Some.is ∙ c.find_depths.ensures)
     c.leaves-leaves.result c.leaves-leaves.ensures

@@ -1,5 +1,5 @@
 -- `prune::has_high` meets its contract: what is asked of the list is asked of what is left of it. Assumes nothing.
-use Prim.Native.Nat.{ℕ, ◌+◌, ◌-◌, ◌≤◌, ◌<◌}
+use Prim.Native.Nat.{ℕ, ◌+◌, ◌≤◌, ◌<◌}
 use mathlib.Core.Path.{◌≡◌, refl, sym, ap, ◌∙◌}
 use mathlib.Core.Bool.{false, ◌||◌}
 use mathlib.Core.List.{List}
@@ -20,32 +20,20 @@ spent : (n : ℕ) (us : List ℕ) (i : ℕ) → length us ≤ i → any (leb n) 
 unfolding any
 spent n us i h = rw drop_of_length-le refl
 
-pub loop-i-init : goal.loop-i-init
-loop-i-init c = (omega arith, refl)
-
-pub offset_bounds-used-i : goal.offset_bounds-used-i
-offset_bounds-used-i c = omega arith
-
-pub bounds-used-i : goal.bounds-used-i
-bounds-used-i c = omega arith
+pub loop-k-init : goal.loop-k-init
+loop-k-init c = refl
 
 pub returns-then-count-k : goal.returns-then-count-k
 returns-then-count-k c =
-    let l = c.loop-i in
+    let l = c.loop-k in
     let a = c.args in
-    sym (l.invariant.1 ∙ turn a.count a.used.now l.i (omega arith) ∙ ap (λ b. b || any (leb a.count) (drop (l.i + 1) a.used.now)) (le-leb a.count (get_or a.used.now l.i 0) c.if-count-k.true))
+    sym (l.invariant ∙ turn a.count a.used.now l.k-index (omega arith) ∙ ap (λ b. b || any (leb a.count) (drop (l.k-index + 1) a.used.now)) (le-leb a.count (get_or a.used.now l.k-index 0) c.if-count-k.true))
 
-pub overflow_add-i : goal.overflow_add-i
-overflow_add-i c = omega arith
-
-pub loop-i-smaller : goal.loop-i-smaller
-loop-i-smaller c = omega arith
-
-pub loop-i-preserved : goal.loop-i-preserved
-loop-i-preserved c =
-    let l = c.loop-i in
+pub loop-k-preserved : goal.loop-k-preserved
+loop-k-preserved c =
+    let l = c.loop-k in
     let a = c.args in
-    (omega arith, l.invariant.1 ∙ turn a.count a.used.now l.i (omega arith) ∙ ap (λ b. b || any (leb a.count) (drop (l.i + 1) a.used.now)) (lt-leb a.count (get_or a.used.now l.i 0) c.if-count-k.false))
+    l.invariant ∙ turn a.count a.used.now l.k-index (omega arith) ∙ ap (λ b. b || any (leb a.count) (drop (l.k-index + 1) a.used.now)) (lt-leb a.count (get_or a.used.now l.k-index 0) c.if-count-k.false)
 
 pub returns : goal.returns
-returns c = let l = c.loop-i in sym (l.invariant.1 ∙ spent _ _ l.i c.loop-i-test.false)
+returns c = let l = c.loop-k in sym (l.invariant ∙ spent _ _ l.k-index (omega arith))

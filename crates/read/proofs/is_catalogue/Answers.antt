@@ -1,5 +1,4 @@
 -- `read::is_catalogue` meets its contract: the catalogue starts with the entries of the lines that were passed.
-use Prim.Native.Nat.{◌-◌}
 use mathlib.Core.Path.{◌≡◌, refl, sym, ap, subst, ◌∙◌}
 use native.Mathlib.Omega.{arith}
 use lib.ListN.{length, drop}
@@ -83,9 +82,9 @@ pub loop-at-preserved : goal.loop-at-preserved
 loop-at-preserved c =
     let a = c.args in
     let w = c.loop-at.invariant.0 in
-    let n = c.in-Upto.next in
+    let n = c.in-Some.next in
     rw (next (goal.at.loop-at-preserved c).After-first_line-cut).cut-is
-    ((next (goal.at.loop-at-preserved c).After-first_line-cut).turn.next, subst (λ d. Reached a.kept.now d n) (sym (next (goal.at.loop-at-preserved c).After-first_line-cut).turn.done-is) (reached-on a.kept.now w.done c.loop-at.o c.loop-at.invariant.1 (next (goal.at.loop-at-preserved c).After-first_line-cut).turn.here n (sym (compared (goal.at.loop-at-preserved c).After-same_record) ∙ c.in-Upto.is)), omega (arith, c.loop-at.invariant.2, (next (goal.at.loop-at-preserved c).After-first_line-cut).turn.count-is))
+    ((next (goal.at.loop-at-preserved c).After-first_line-cut).turn.next, subst (λ d. Reached a.kept.now d n) (sym (next (goal.at.loop-at-preserved c).After-first_line-cut).turn.done-is) (reached-on a.kept.now w.done c.loop-at.o c.loop-at.invariant.1 (next (goal.at.loop-at-preserved c).After-first_line-cut).turn.here n (sym (compared (goal.at.loop-at-preserved c).After-same_record) ∙ c.in-Some.is)), omega (arith, c.loop-at.invariant.2, (next (goal.at.loop-at-preserved c).After-first_line-cut).turn.count-is))
 
 pub returns : goal.returns
 returns c =

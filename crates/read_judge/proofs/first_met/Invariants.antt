@@ -2,7 +2,6 @@ use Prim.Native.Nat.{◌+◌, ◌-◌, ◌*◌, ◌≤◌}
 use mathlib.Core.Path.{◌≡◌}
 use lib.ListN.{length, drop}
 use Rattle.format.specs.Lines.{lines_from}
-use Rattle.format.specs.Records.{line}
 use Rattle.read_judge.specs.Blocks.{clash_of}
 use Rattle.read_judge.proofs.first_met.Given as goal
 

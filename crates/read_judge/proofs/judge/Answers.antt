@@ -9,7 +9,7 @@ pub returns-then-text-gt-LONGEST : goal.returns-then-text-gt-LONGEST
 unfolding judgement judged_of
 returns-then-text-gt-LONGEST c =
     let t = c.args.text.now in
-    sym (ap (judged_of (is_once t)) (too_long t c.if-text-gt-LONGEST.true))
+    rw c.of_text.ensures (sym (ap (judged_of (is_once t)) (too_long t c.if-text-gt-LONGEST.true)))
 
 pub returns : goal.returns
 unfolding judgement judged_by

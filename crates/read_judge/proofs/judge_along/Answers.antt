@@ -317,9 +317,9 @@ returns-then-is_busy c =
       looks = omega (arith, c.given_up.ensures.lines, c.given_up.ensures.slots, c.counted-slots.ensures, counted-most a.way.seed.keyed c.loop-at.slots c.find_or_enter-found.result.slots, c.find_or_enter-found.ensures.slots, more, long, c.loop-at.invariant.3);
     }
 
-pub overflow_cast-line : goal.overflow_cast-line
-overflow_cast-line c =
-    omega (arith, c.loop-at.invariant.0.slow, inside (goal.at.overflow_cast-line c).Else-at-text, c.requires.text_len_bound)
+pub overflow_cast-refusal : goal.overflow_cast-refusal
+overflow_cast-refusal c =
+    omega (arith, c.loop-at.invariant.0.slow, inside (goal.at.overflow_cast-refusal c).Else-at-text, c.requires.text_len_bound)
 
 pub shape_of-area-then-n-ne0 : goal.shape_of-area-then-n-ne0
 shape_of-area-then-n-ne0 c = long_after (goal.at.shape_of-area-then-n-ne0 c).After-find_or_enter-found

@@ -1,6 +1,5 @@
 use Prim.Native.Nat.{◌+◌, ◌-◌, ◌*◌, ◌≤◌}
 use lib.ListN.{length}
-use Rattle.format.specs.Records.{line}
 use Rattle.read_judge.proofs.Once.{Once}
 use Rattle.read_judge.proofs.Blocks.{Blocking}
 use Rattle.read_judge.proofs.Judging.{Judging}

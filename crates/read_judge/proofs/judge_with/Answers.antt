@@ -11,7 +11,7 @@ pub returns-then-text-gt-LONGEST : goal.returns-then-text-gt-LONGEST
 unfolding judgement judged_of all_zeros
 returns-then-text-gt-LONGEST c =
     let t = c.args.text.now in record {
-      judged = sym (ap (judged_of (is_once t)) (too_long t c.if-text-gt-LONGEST.true));
+      judged = rw c.of_text.ensures (sym (ap (judged_of (is_once t)) (too_long t c.if-text-gt-LONGEST.true)));
       zeros = c.clear.ensures;
     }
 

@@ -1,13 +1,9 @@
 -- `read_judge::parse_lenient` meets its contract: what the strict rule accepts is the same by the other.
-use mathlib.Core.Path.{◌≡◌, sym, ap, subst, ◌∙◌}
+use mathlib.Core.Path.{◌≡◌, sym, ap, ◌∙◌}
 use mathlib.Core.Bool.{true}
-use mathlib.Core.List.{[], ◌∷◌}
 use borrow.Author.Tests.{not-true, not-false}
-use denote.Enum.Declared.{tag_of}
-use types.Run.{OneOf}
 use Rattle.format.specs.Lines.{Piece}
 use Rattle.format.specs.Records.{line}
-use Rattle.record.specs.contracts.Head.{the_type}
 use Rattle.record.specs.Head.{head_of}
 use Rattle.read_judge.proofs.Parsing.{head_read, head-refused, parsed-known, parsed-read, parsed-again}
 use Rattle.read_judge.proofs.parse_lenient.Goals as goal

@@ -5,17 +5,18 @@ use mathlib.Core.List.{List, [], ◌∷◌}
 use native.Mathlib.Omega.{arith}
 use lib.ListN.{length, get_or}
 use Rattle.format.specs.Records.{kind_of}
-use Rattle.record_kind.specs.declared.ParsedKind.TheVariants.{Empty, Invalid}
+use Rattle.std.specs.Prelude.{Err}
+use Rattle.record_kind.specs.declared.KindError.TheVariants.{Empty, Invalid}
 use Rattle.record_kind.specs.Kind.{kind_at, parsed_kind_of}
 use Rattle.record_kind.proofs.Refused.{kind-told}
 use Rattle.record_kind.proofs.parse_kind.Goals as goal
 
-none : (s : List ℕ) → length s ≡ 0 → Empty ≡ kind_at s
+none : (s : List ℕ) → length s ≡ 0 → Err Empty ≡ kind_at s
 unfolding kind_at
 none [] h = refl
 none (a ∷ s) h = absurd (omega arith)
 
-one : (s : List ℕ) → length s ≡ 1 → Invalid ≡ kind_at s
+one : (s : List ℕ) → length s ≡ 1 → Err Invalid ≡ kind_at s
 unfolding kind_at
 one [] h = absurd (omega arith)
 one (a ∷ []) h = refl
@@ -27,18 +28,18 @@ two [] h = absurd (omega arith)
 two (a ∷ []) h = absurd (omega arith)
 two (a ∷ b ∷ s) h = refl
 
-pub returns-then-src-eq0 : goal.returns-then-src-eq0
-returns-then-src-eq0 c =
-    let told = kind-told _ Empty (none _ c.if-src-eq0.true) in
+pub returns-in-empty : goal.returns-in-empty
+returns-in-empty c =
+    let told = kind-told _ (Err Empty) (none _ (omega (arith, c.in-empty))) in
     record { is = told.0; refusal = told.1 }
 
-pub returns-then-src-eq1 : goal.returns-then-src-eq1
-returns-then-src-eq1 c =
-    let told = kind-told _ Invalid (one _ c.if-src-eq1.true) in
+pub returns-in-len1 : goal.returns-in-len1
+returns-in-len1 c =
+    let told = kind-told _ (Err Invalid) (one _ (omega (arith, c.in-len1))) in
     record { is = told.0; refusal = told.1 }
 
-pub returns : goal.returns
-returns c =
+pub returns-in-len2-up : goal.returns-in-len2-up
+returns-in-len2-up c =
     let s = c.args.src.now in
     let told = kind-told s c.kind_of.result (c.kind_of.ensures ∙ two s (omega arith)) in
     record { is = told.0; refusal = told.1 }

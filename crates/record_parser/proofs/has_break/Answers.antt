@@ -33,7 +33,7 @@ returns-then-upto-src c =
     let s = c.args.src.now in
     sym (breaks-upto s ∙ rw (sym c.upto.ensures, lt-ltb _ _ c.if-upto-src.true) refl)
 
-pub returns : goal.returns
-returns c =
+pub returns-else-upto-src : goal.returns-else-upto-src
+returns-else-upto-src c =
     let s = c.args.src.now in
-    sym (breaks-upto s ∙ rw (sym c.upto.ensures, le-ltb _ _ c.if-upto-src.false, sym c.upto-2.ensures) refl)
+    sym (breaks-upto s ∙ rw (sym c.upto.ensures, le-ltb _ _ c.if-upto-src.false, sym c.upto-else-upto-src.ensures) refl)

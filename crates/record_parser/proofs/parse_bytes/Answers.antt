@@ -5,6 +5,7 @@ use native.Mathlib.Omega.{arith}
 use lib.ListN.{length, drop, length-drop}
 use lib.Seq.{drop-drop}
 use borrow.Author.Tests.{not-true, not-false}
+use Rattle.std.specs.Prelude.{Err}
 use Rattle.format.specs.Records.{prefixed, kinded}
 use Rattle.byte_slices.proofs.Before.{rest}
 use Rattle.record_kind.specs.Kind.{kind_at}
@@ -38,26 +39,26 @@ slice_bounds-parse_kind-start c = (there c).0
 pub parse_value-requires : goal.parse_value-requires
 parse_value-requires c =
     let a = c.args in
-    let h : 2 ≤ length (drop 1 a.src.now) = kind-long (drop 1 a.src.now) c.in-Is.k (sym (answer (goal.at.parse_value-requires c).After-parse_kind) ∙ c.in-Is.is) in record {
+    let h : 2 ≤ length (drop 1 a.src.now) = kind-long (drop 1 a.src.now) c.in-Ok.kind (sym (answer (goal.at.parse_value-requires c).After-parse_kind) ∙ c.in-Ok.is) in record {
       in_bounds = omega (arith, h, length-drop 1 a.src.now);
       src_bound = c.requires;
     }
 
-pub returns-in-Empty : goal.returns-in-Empty
+pub returns-in-Err-Empty : goal.returns-in-Err-Empty
 unfolding head_of
-returns-in-Empty c =
+returns-in-Err-Empty c =
     let a = c.args in
-    sym (ap head_of ((there (goal.at.returns-in-Empty c).Else-not-leads).1 ∙ kind-empty a.strict (a.at + 1) (drop 1 a.src.now) (sym (answer (goal.at.returns-in-Empty c).After-parse_kind) ∙ c.in-Empty.is)))
+    sym (ap head_of ((there (goal.at.returns-in-Err-Empty c).Else-not-leads).1 ∙ kind-empty a.strict (a.at + 1) (drop 1 a.src.now) (sym (answer (goal.at.returns-in-Err-Empty c).After-parse_kind) ∙ c.in-Err-Empty.is ∙ ap Err c.in-Err-Empty.field-0-is)))
 
-pub returns-in-Invalid : goal.returns-in-Invalid
+pub returns-in-Err-Invalid : goal.returns-in-Err-Invalid
 unfolding head_of
-returns-in-Invalid c =
+returns-in-Err-Invalid c =
     let a = c.args in
-    sym (ap head_of ((there (goal.at.returns-in-Invalid c).Else-not-leads).1 ∙ kind-invalid a.strict (a.at + 1) (drop 1 a.src.now) (sym (answer (goal.at.returns-in-Invalid c).After-parse_kind) ∙ c.in-Invalid.is)))
+    sym (ap head_of ((there (goal.at.returns-in-Err-Invalid c).Else-not-leads).1 ∙ kind-invalid a.strict (a.at + 1) (drop 1 a.src.now) (sym (answer (goal.at.returns-in-Err-Invalid c).After-parse_kind) ∙ c.in-Err-Invalid.is ∙ ap Err c.in-Err-Invalid.field-0-is)))
 
-pub returns-in-Is : goal.returns-in-Is
-returns-in-Is c =
+pub returns-in-Ok : goal.returns-in-Ok
+returns-in-Ok c =
     let a = c.args in
     let n : a.at + 1 + 2 ≡ a.at + 3 = omega arith in
     c.parse_value.ensures
-    ∙ sym (ap head_of ((there (goal.at.returns-in-Is c).Else-not-leads).1 ∙ kind-is a.strict (a.at + 1) (drop 1 a.src.now) c.in-Is.k (sym (answer (goal.at.returns-in-Is c).After-parse_kind) ∙ c.in-Is.is) ∙ rw (drop-drop 2 1 a.src.now, n) refl))
+    ∙ sym (ap head_of ((there (goal.at.returns-in-Ok c).Else-not-leads).1 ∙ kind-is a.strict (a.at + 1) (drop 1 a.src.now) c.in-Ok.kind (sym (answer (goal.at.returns-in-Ok c).After-parse_kind) ∙ c.in-Ok.is) ∙ rw (drop-drop 2 1 a.src.now, n) refl))

@@ -1,4 +1,4 @@
--- `record::occurs` meets its contract: nothing occurs from the place on that the loop has come down to.
+-- `record_tags::occurs` meets its contract: nothing occurs from the place on that the loop has come down to.
 use Prim.Native.Nat.{ℕ, ◌+◌, ◌-◌, ◌≤◌, ◌<◌}
 use mathlib.Core.Path.{◌≡◌, refl, sym, ap, ◌∙◌}
 use mathlib.Core.Bool.{true, false, ◌&&◌, ◌||◌}
@@ -10,6 +10,7 @@ use borrow.Author.Tests.{eq-eqb, ne_eqb}
 use Rattle.record_tags.specs.Occurs.{occurs}
 use Rattle.record_tags.proofs.Region.{occurs-short, occurs-at, occurs-drop}
 use Rattle.record_tags.proofs.occurs.Goals as goal
+use Rattle.record_tags.proofs.occurs.Goals.{else-src-i-eq9-via-then-src-i-eq9+then-src-i+else-src-i-2, else-src-i-eq9-via-then-src-i-eq9+else-src-i, else-src-i-eq9-via-else-src-i-eq9}
 
 -- a step at the place before `i`
 module _ (a b : ℕ) (s : List ℕ) (i : ℕ) (h : i + 2 ≤ length s) (p : 0 < i) (n : occurs a b (drop i s) ≡ false) where
@@ -29,63 +30,30 @@ module _ (a b : ℕ) (s : List ℕ) (i : ℕ) (h : i + 2 ≤ length s) (p : 0 < 
   not-second : get_or s (i - 1) 0 ≡ 9 → get_or s (i - 1 + 1) 0 ≡ a → (get_or s (i - 1 + 2) 0 ≡ b → ⊥) → occurs a b (drop (i - 1) s) ≡ false
   not-second x y z = here ∙ rw (eq-eqb _ _ x, eq-eqb _ _ (sym y), ne_eqb b (get_or s (i - 1 + 2) 0) (λ e. z (sym e))) refl
 
-pub returns-then-src-lt3 : goal.returns-then-src-lt3
-returns-then-src-lt3 c = sym (occurs-short c.args.a c.args.b c.args.src.now (omega arith))
-
-pub overflow_sub-i : goal.overflow_sub-i
-overflow_sub-i c = omega arith
-
 pub loop-i-init : goal.loop-i-init
-loop-i-init c = (omega arith, occurs-short _ _ _ (omega (arith, length-drop (length c.args.src.now - 2) c.args.src.now)))
-
-pub overflow_sub-i-in-loop-i : goal.overflow_sub-i-in-loop-i
-overflow_sub-i-in-loop-i c = omega arith
-
-pub bounds-src-i : goal.bounds-src-i
-bounds-src-i c = omega arith
-
-pub overflow_add-i : goal.overflow_add-i
-overflow_add-i c = omega arith
-
-pub bounds-src-i-then-src-i-eq9 : goal.bounds-src-i-then-src-i-eq9
-bounds-src-i-then-src-i-eq9 c = omega arith
-
-pub overflow_add-i-then-src-i : goal.overflow_add-i-then-src-i
-overflow_add-i-then-src-i c = omega arith
-
-pub bounds-src-i-then-src-i : goal.bounds-src-i-then-src-i
-bounds-src-i-then-src-i c = omega arith
+loop-i-init c =
+    let n = c.saturating_sub-i.result in
+    occurs-short _ _ _ (omega (arith, c.saturating_sub-i.ensures, length-drop n c.args.src.now))
 
 pub returns-then-src-i-2 : goal.returns-then-src-i-2
 returns-then-src-i-2 c =
     let a = c.args in
-    sym (found a.a a.b a.src.now c.loop-i.i (omega arith) (omega arith) c.loop-i.invariant.1 c.if-src-i-eq9.true c.if-src-i.true c.if-src-i-2.true)
-
-pub loop-i-smaller-else-src-i-2 : goal.loop-i-smaller-else-src-i-2
-loop-i-smaller-else-src-i-2 c = omega arith
-
-pub loop-i-preserved-else-src-i-2 : goal.loop-i-preserved-else-src-i-2
-loop-i-preserved-else-src-i-2 c =
-    let a = c.args in
-    (omega arith, not-second a.a a.b a.src.now c.loop-i.i (omega arith) (omega arith) c.loop-i.invariant.1 c.if-src-i-eq9.true c.if-src-i.true c.if-src-i-2.false)
-
-pub loop-i-smaller-else-src-i : goal.loop-i-smaller-else-src-i
-loop-i-smaller-else-src-i c = omega arith
-
-pub loop-i-preserved-else-src-i : goal.loop-i-preserved-else-src-i
-loop-i-preserved-else-src-i c =
-    let a = c.args in
-    (omega arith, not_first a.a a.b a.src.now c.loop-i.i (omega arith) (omega arith) c.loop-i.invariant.1 c.if-src-i-eq9.true c.if-src-i.false)
-
-pub loop-i-smaller : goal.loop-i-smaller
-loop-i-smaller c = omega arith
+    sym (found a.a a.b a.src.now c.loop-i.i (omega (arith, c.saturating_sub-i.ensures)) (omega arith) c.loop-i.invariant c.if-src-i-eq9.true c.if-src-i.true c.if-src-i-2.true)
 
 pub loop-i-preserved : goal.loop-i-preserved
 loop-i-preserved c =
     let a = c.args in
-    (omega arith, not-tab a.a a.b a.src.now c.loop-i.i (omega arith) (omega arith) c.loop-i.invariant.1 c.if-src-i-eq9.false)
+    let h : c.loop-i.i + 2 ≤ length a.src.now = omega (arith, c.saturating_sub-i.ensures) in
+    let p : 0 < c.loop-i.i = omega arith in
+    let n = c.loop-i.invariant in
+    elim c.else-src-i-eq9.branch [
+      | else-src-i-eq9-via-else-src-i-eq9 w ↦ not-tab a.a a.b a.src.now c.loop-i.i h p n w.if-src-i-eq9.false
+      | else-src-i-eq9-via-then-src-i-eq9+else-src-i w ↦ not_first a.a a.b a.src.now c.loop-i.i h p n w.if-src-i-eq9.true w.if-src-i.false
+      | else-src-i-eq9-via-then-src-i-eq9+then-src-i+else-src-i-2 w ↦
+          not-second a.a a.b a.src.now c.loop-i.i h p n w.if-src-i-eq9.true w.if-src-i.true w.if-src-i-2.false
+    ]
 
 pub returns : goal.returns
 returns c =
     let a = c.args in
-    sym (ap (λ j. occurs a.a a.b (drop j a.src.now)) (let e : 0 ≡ c.loop-i.i = omega arith in e) ∙ c.loop-i.invariant.1)
+    sym (ap (λ j. occurs a.a a.b (drop j a.src.now)) (let e : 0 ≡ c.loop-i.i = omega arith in e) ∙ c.loop-i.invariant)

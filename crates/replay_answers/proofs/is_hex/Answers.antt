@@ -29,16 +29,7 @@ returns-then-s-bytes c =
 pub loop-i-init : goal.loop-i-init
 loop-i-init c =
     let a = c.args in
-    (omega arith, omega (arith, c.if-s-bytes.false, c.if-s-ne0.false), ap (same a.s.now) (hex-some a.bytes.now (omega (arith, c.if-bytes-eq0.false))))
-
-pub overflow_mul-i : goal.overflow_mul-i
-overflow_mul-i c = omega arith
-
-pub bounds-bytes-i : goal.bounds-bytes-i
-bounds-bytes-i c = omega arith
-
-pub is_pair-requires : goal.is_pair-requires
-is_pair-requires c = omega arith
+    (omega (arith, c.if-s-bytes.false, c.if-s-ne0.false), ap (same a.s.now) (hex-some a.bytes.now (omega (arith, c.if-bytes-eq0.false))))
 
 -- what is left to compare after a step
 left : After-is_pair → Bool
@@ -51,24 +42,18 @@ turned : (p : After-is_pair)
 unfolding left
 turned p =
     let a = p.args in
-    p.loop-i.invariant.2 ∙ hex-step a.s.now a.bytes.now p.loop-i.i p.loop-i.invariant.1 p.loop-i-test.true ∙ ap (λ t. t && left p) (sym p.is_pair.ensures)
+    p.loop-i.invariant.1 ∙ hex-step a.s.now a.bytes.now p.loop-i.i p.loop-i.invariant.0 (omega arith) ∙ ap (λ t. t && left p) (sym p.is_pair.ensures)
 
 pub returns-then-not-is_pair : goal.returns-then-not-is_pair
 unfolding left
-returns-then-not-is_pair c = sym (turned (goal.at.returns-then-not-is_pair c).After-is_pair ∙ ap (λ t. t && left (goal.at.returns-then-not-is_pair c).After-is_pair) (not-true c.is_pair.result c.if-not-is_pair.true-raw))
-
-pub overflow_add-i : goal.overflow_add-i
-overflow_add-i c = omega arith
-
-pub loop-i-smaller : goal.loop-i-smaller
-loop-i-smaller c = omega arith
+returns-then-not-is_pair c = sym (turned (goal.at.returns-then-not-is_pair c).After-is_pair ∙ ap (λ t. t && left (goal.at.returns-then-not-is_pair c).After-is_pair) c.if-not-is_pair.true)
 
 pub loop-i-preserved : goal.loop-i-preserved
 unfolding left
 loop-i-preserved c =
-    (omega arith, c.loop-i.invariant.1, turned (goal.at.loop-i-preserved c).After-is_pair ∙ ap (λ t. t && left (goal.at.loop-i-preserved c).After-is_pair) (not-false c.is_pair.result c.if-not-is_pair.false-raw))
+    (c.loop-i.invariant.0, turned (goal.at.loop-i-preserved c).After-is_pair ∙ ap (λ t. t && left (goal.at.loop-i-preserved c).After-is_pair) c.if-not-is_pair.false)
 
 pub returns : goal.returns
 returns c =
     let a = c.args in
-    sym (c.loop-i.invariant.2 ∙ hex-end a.s.now a.bytes.now c.loop-i.i c.loop-i.invariant.1 c.loop-i-test.false)
+    sym (c.loop-i.invariant.1 ∙ hex-end a.s.now a.bytes.now c.loop-i.i c.loop-i.invariant.0 (omega arith))

@@ -1,4 +1,4 @@
-use Prim.Native.Nat.{◌-◌, ◌*◌, ◌≤◌}
+use Prim.Native.Nat.{◌*◌}
 use mathlib.Core.Path.{◌≡◌}
 use lib.ListN.{length, drop}
 use Rattle.format.specs.Bytes.{same}
@@ -7,7 +7,4 @@ use Rattle.replay_answers.proofs.is_hex.Given as goal
 
 abbrev pub invariant-loop-i : goal.invariant-loop-i
 invariant-loop-i l =
-    (l.i ≤ length l.bytes) × (length l.s ≡ 2 * length l.bytes) × (same l.s (hex_word l.bytes) ≡ same (drop (2 * l.i) l.s) (hex_of (drop l.i l.bytes)))
-
-abbrev pub decreases-loop-i : goal.decreases-loop-i
-decreases-loop-i l = length l.bytes - l.i
+    (length l.s ≡ 2 * length l.bytes) × (same l.s (hex_word l.bytes) ≡ same (drop (2 * l.i) l.s) (hex_of (drop l.i l.bytes)))

@@ -1,49 +1,38 @@
 -- `replay_cases::decode` meets its contract: after i steps the first i bytes are pasted. Assumes nothing.
-use Prim.Native.Nat.{ℕ, ◌+◌, ◌*◌, ◌≤◌, ◌<◌, ◌-◌, ◌/◌}
-use mathlib.Core.Path.{◌≡◌, refl, sym, ap, ap₂, ◌∙◌}
+use Prim.Native.Nat.{ℕ, ◌+◌, ◌*◌, ◌≤◌, ◌<◌, ◌/◌}
+use mathlib.Core.Path.{◌≡◌, sym, ap, ap₂, ◌∙◌}
 use native.Mathlib.Omega.{arith}
 use lib.ListN.{length, set, take, length-set}
-use lib.Seq.{length-take-le, paste, paste-zero}
+use lib.Seq.{paste}
 use Rattle.byte_slices.specs.Over.{over}
 use Rattle.replay_cases.specs.Cases.{decoded, decoded_count}
 use Rattle.replay_cases.proofs.Digits.{decoded-at, decoded-turn, decoded-over, decoded-room}
 use Rattle.replay_cases.proofs.decode.Goals as goal
 
-pub loop-i-init : goal.loop-i-init
-unfolding decoded_count
-loop-i-init c =
-    let a = c.args in
-    (omega arith, omega arith, omega arith, refl, c.least-n.ensures.2, paste-zero a.text.now 0 (decoded a.hex.now))
-
 pub loop-i-preserved : goal.loop-i-preserved
 loop-i-preserved c =
-    let a = c.args in
     let hex = c.args.hex.now in
     let text = c.args.text.now in
     let i : ℕ = c.loop-i.i in
-    let n = c.least-n.result in
-    let half : n ≤ length hex / 2 = c.loop-i.invariant.2 in
+    let half : c.least-n.result ≤ length hex / 2 = c.least-n.ensures.0 in
     let two : 2 * i + 1 < length hex = omega (arith, half) in
-    let first = c.digit.ensures.1 in
-    let second = c.digit-in-loop-i.ensures.1 in
-    let byte = ap₂ (λ d e. d * 16 + e) first second ∙ sym (decoded-at hex i two) in
+    let byte = ap₂ (λ d e. d * 16 + e) c.digit.ensures.1 c.digit-in-loop-i.ensures.1 ∙ sym (decoded-at hex i two) in
     let pasted =
-    ap₂ (λ t b. set t i b) c.loop-i.invariant.5 byte
-    ∙ decoded-turn text hex i (omega arith) two in
-    (omega arith, omega arith, omega arith, simp length-set (omega arith), c.loop-i.invariant.4, pasted)
+    ap₂ (λ t b. set t i b) c.loop-i.invariant.1 byte
+    ∙ decoded-turn text hex i (omega (arith, c.least-n.ensures.1)) two in
+    (simp length-set (omega arith), pasted)
 
-pub returns : goal.returns
-returns c =
-    let a = c.args in
+pub returns-clause-count : goal.returns-clause-count
+unfolding decoded_count
+returns-clause-count c = c.least-n.ensures.2
+
+pub returns-clause-wrote : goal.returns-clause-wrote
+unfolding decoded_count
+returns-clause-wrote c =
     let hex = c.args.hex.now in
     let text = c.args.text.now in
     let n = c.least-n.result in
-    let half : n ≤ length hex / 2 = c.loop-i.invariant.2 in
+    let half : n ≤ length hex / 2 = c.least-n.ensures.0 in
     let done : c.loop-i.i ≡ n = omega arith in
-    let wrote =
-    c.loop-i.invariant.5 ∙ ap (paste text 0 (decoded hex)) done ∙ decoded-over text hex n (decoded-room hex n half)
-    ∙ ap (λ m. over text 0 (take m (decoded hex))) c.loop-i.invariant.4 in record {
-      within = (omega arith, sym (length-take-le n c.loop-i.text (omega arith)), c.loop-i.invariant.3);
-      count = c.loop-i.invariant.4;
-      wrote = wrote;
-    }
+    c.loop-i.invariant.1 ∙ ap (paste text 0 (decoded hex)) done ∙ decoded-over text hex n (decoded-room hex n half)
+    ∙ ap (λ m. over text 0 (take m (decoded hex))) c.least-n.ensures.2

@@ -4,8 +4,5 @@ use lib.ListN.{length, drop}
 use Rattle.replay_cases.specs.Cases.{from_word}
 use Rattle.replay_cases.proofs.word_start.Given as goal
 
-abbrev pub invariant-loop-left : goal.invariant-loop-left
-invariant-loop-left l = (l.at ≤ length l.line) × (from_word l.k l.line ≡ from_word l.left (drop l.at l.line))
-
-abbrev pub decreases-loop-left : goal.decreases-loop-left
-decreases-loop-left l = l.left
+abbrev pub invariant-loop : goal.invariant-loop
+invariant-loop l = (l.at ≤ length l.line) × (from_word l.k l.line ≡ from_word (l.k - l.counter) (drop l.at l.line))

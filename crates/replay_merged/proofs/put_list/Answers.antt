@@ -1,5 +1,5 @@
 -- `replay_merged::put_list` meets its contract.
-use Prim.Native.Nat.{◌-◌, ◌≤◌}
+use Prim.Native.Nat.{◌≤◌}
 use mathlib.Core.Path.{refl, sym, ◌∙◌}
 use native.Mathlib.Omega.{arith}
 use lib.ListN.{length, length-set, length-take}
@@ -9,7 +9,7 @@ pub slice_bounds-decode-end : goal.slice_bounds-decode-end
 slice_bounds-decode-end c = c.large_buffer-bytes.ensures
 
 pub loop-i-init : goal.loop-i-init
-loop-i-init c = (omega arith, refl)
+loop-i-init c = refl
 
 pub slice_bounds-ordinal-end : goal.slice_bounds-ordinal-end
 slice_bounds-ordinal-end c = c.large_buffer-bytes.ensures ∙ sym c.decode-n.ensures.within.2
@@ -25,21 +25,12 @@ pub offset_bounds-list-i : goal.offset_bounds-list-i
 offset_bounds-list-i c = omega arith
 
 pub bounds-list-i : goal.bounds-list-i
-bounds-list-i c = omega (arith, c.least-count.ensures.1, c.loop-i.invariant.1, c.loop-i-test.true)
-
-pub overflow_add-i : goal.overflow_add-i
-overflow_add-i c = omega arith
-
-pub loop-i-smaller : goal.loop-i-smaller
-loop-i-smaller c = omega (arith, c.loop-i-test.true)
+bounds-list-i c = omega (arith, c.least-count.ensures.1, c.loop-i.invariant, c.loop-i-test.true)
 
 pub loop-i-preserved : goal.loop-i-preserved
-loop-i-preserved c = (omega (arith, c.loop-i-test.true), length-set c.loop-i.list _ _ ∙ c.loop-i.invariant.1)
-
-pub shape_of-list : goal.shape_of-list
-shape_of-list c = c.loop-i.invariant.1
+loop-i-preserved c = length-set c.loop-i.list _ _ ∙ c.loop-i.invariant
 
 pub returns : goal.returns
 returns c =
-    let n : c.least-count.result ≤ length c.loop-i.list = omega (arith, c.least-count.ensures.1, c.loop-i.invariant.1) in
+    let n : c.least-count.result ≤ length c.loop-i.list = omega (arith, c.least-count.ensures.1, c.loop-i.invariant) in
     (n, omega (arith, length-take c.least-count.result c.loop-i.list))

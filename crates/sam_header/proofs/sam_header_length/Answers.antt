@@ -3,18 +3,18 @@ use mathlib.Core.Path.{sym, ap, ◌∙◌}
 use Rattle.sam_header_words.specs.Words.{length_word, length_left}
 use Rattle.sam_header.proofs.sam_header_length.Goals as goal
 
-pub returns-in-Refused : goal.returns-in-Refused
+pub returns-in-Err : goal.returns-in-Err
 unfolding length_word length_left
-returns-in-Refused c =
-    let e = sym c.in-Refused.is ∙ c.length.ensures in record {
+returns-in-Err c =
+    let e = sym c.in-Err.is ∙ c.length.ensures in record {
       answer = c.refusal_word.ensures ∙ ap length_word e;
       wrote = ap (λ x. length_left x c.args.ln.now) e;
     }
 
-pub returns-in-Is : goal.returns-in-Is
+pub returns-in-Ok : goal.returns-in-Ok
 unfolding length_word length_left
-returns-in-Is c =
-    let e = sym c.in-Is.is ∙ c.length.ensures in record {
+returns-in-Ok c =
+    let e = sym c.in-Ok.is ∙ c.length.ensures in record {
       answer = ap length_word e;
       wrote = ap (λ x. length_left x c.args.ln.now) e;
     }

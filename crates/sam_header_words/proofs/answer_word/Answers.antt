@@ -3,10 +3,10 @@ use mathlib.Core.Path.{sym, ap, ◌∙◌}
 use Rattle.sam_header_words.specs.Words.{answer_word}
 use Rattle.sam_header_words.proofs.answer_word.Goals as goal
 
-pub returns-in-Refused : goal.returns-in-Refused
+pub returns-in-Err : goal.returns-in-Err
 unfolding answer_word
-returns-in-Refused c = c.refusal_word.ensures ∙ sym (ap answer_word c.in-Refused.is)
+returns-in-Err c = c.refusal_word.ensures ∙ sym (ap answer_word c.in-Err.is)
 
-pub returns-in-Count : goal.returns-in-Count
+pub returns-in-Ok : goal.returns-in-Ok
 unfolding answer_word
-returns-in-Count c = sym (ap answer_word c.in-Count.is)
+returns-in-Ok c = sym (ap answer_word c.in-Ok.is)

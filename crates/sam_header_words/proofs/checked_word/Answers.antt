@@ -3,10 +3,10 @@ use mathlib.Core.Path.{sym, ap, ◌∙◌}
 use Rattle.sam_header_words.specs.Words.{checked_word}
 use Rattle.sam_header_words.proofs.checked_word.Goals as goal
 
-pub returns-in-Refused : goal.returns-in-Refused
+pub returns-in-Err : goal.returns-in-Err
 unfolding checked_word
-returns-in-Refused c = c.refusal_word.ensures ∙ sym (ap checked_word c.in-Refused.is)
+returns-in-Err c = c.refusal_word.ensures ∙ sym (ap checked_word c.in-Err.is)
 
-pub returns-in-Fresh : goal.returns-in-Fresh
+pub returns-in-Ok : goal.returns-in-Ok
 unfolding checked_word
-returns-in-Fresh c = sym (ap checked_word c.in-Fresh.is)
+returns-in-Ok c = sym (ap checked_word c.in-Ok.is)

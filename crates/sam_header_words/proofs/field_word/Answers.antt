@@ -3,10 +3,10 @@ use mathlib.Core.Path.{sym, ap, ◌∙◌}
 use Rattle.sam_header_words.specs.Words.{field_word}
 use Rattle.sam_header_words.proofs.field_word.Goals as goal
 
-pub returns-in-StandIn : goal.returns-in-StandIn
+pub returns-in-None : goal.returns-in-None
 unfolding field_word
-returns-in-StandIn c = sym (ap field_word c.in-StandIn.is)
+returns-in-None c = sym (ap field_word c.in-None.is)
 
-pub returns-in-At : goal.returns-in-At
+pub returns-in-Some : goal.returns-in-Some
 unfolding field_word
-returns-in-At c = c.pair_word.ensures ∙ sym (ap field_word c.in-At.is)
+returns-in-Some c = c.pair_word.ensures ∙ sym (ap field_word c.in-Some.is)

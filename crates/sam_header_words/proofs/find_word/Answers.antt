@@ -3,10 +3,10 @@ use mathlib.Core.Path.{sym, ap, ◌∙◌}
 use Rattle.sam_header_words.specs.Words.{find_word}
 use Rattle.sam_header_words.proofs.find_word.Goals as goal
 
-pub returns-in-Refused : goal.returns-in-Refused
+pub returns-in-Err : goal.returns-in-Err
 unfolding find_word
-returns-in-Refused c = c.refusal_word.ensures ∙ sym (ap find_word c.in-Refused.is)
+returns-in-Err c = c.refusal_word.ensures ∙ sym (ap find_word c.in-Err.is)
 
-pub returns-in-Is : goal.returns-in-Is
+pub returns-in-Ok : goal.returns-in-Ok
 unfolding find_word
-returns-in-Is c = sym (ap find_word c.in-Is.is)
+returns-in-Ok c = sym (ap find_word c.in-Ok.is)

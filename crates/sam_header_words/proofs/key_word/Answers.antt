@@ -3,10 +3,10 @@ use mathlib.Core.Path.{sym, ap, ◌∙◌}
 use Rattle.sam_header_words.specs.Words.{key_word}
 use Rattle.sam_header_words.proofs.key_word.Goals as goal
 
-pub returns-in-Refused : goal.returns-in-Refused
+pub returns-in-Err : goal.returns-in-Err
 unfolding key_word
-returns-in-Refused c = c.refusal_word.ensures ∙ sym (ap key_word c.in-Refused.is)
+returns-in-Err c = c.refusal_word.ensures ∙ sym (ap key_word c.in-Err.is)
 
-pub returns-in-At : goal.returns-in-At
+pub returns-in-Ok : goal.returns-in-Ok
 unfolding key_word
-returns-in-At c = c.pair_word.ensures ∙ sym (ap key_word c.in-At.is)
+returns-in-Ok c = c.pair_word.ensures ∙ sym (ap key_word c.in-Ok.is)

@@ -5,16 +5,16 @@ use native.Mathlib.Omega.{arith}
 use Rattle.sam_header_words.specs.Words.{FewLeaves, leaves_word}
 use Rattle.sam_header_words.proofs.leaves_word.Goals as goal
 
-pub overflow_cast-n : goal.overflow_cast-n
+pub overflow_cast-found : goal.overflow_cast-found
 unfolding FewLeaves
-overflow_cast-n c =
-    let few : c.in-Counted.n ≤ 1024 = subst FewLeaves c.in-Counted.is c.requires in
+overflow_cast-found c =
+    let few : c.in-Ok.found.leaves ≤ 1024 = subst FewLeaves c.in-Ok.is c.requires in
     omega (arith, few)
 
-pub returns-in-Refused : goal.returns-in-Refused
+pub returns-in-Err : goal.returns-in-Err
 unfolding leaves_word
-returns-in-Refused c = c.refusal_word.ensures ∙ ap leaves_word (sym c.in-Refused.is)
+returns-in-Err c = c.refusal_word.ensures ∙ ap leaves_word (sym c.in-Err.is)
 
-pub returns-in-Counted : goal.returns-in-Counted
+pub returns-in-Ok : goal.returns-in-Ok
 unfolding leaves_word
-returns-in-Counted c = c.pair_word.ensures ∙ ap leaves_word (sym c.in-Counted.is)
+returns-in-Ok c = c.pair_word.ensures ∙ ap leaves_word (sym c.in-Ok.is)

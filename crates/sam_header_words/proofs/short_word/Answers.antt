@@ -15,4 +15,4 @@ pub returns-else-n-lt4611686018427387904 : goal.returns-else-n-lt461168601842738
 unfolding short_word
 returns-else-n-lt4611686018427387904 c =
     let a = c.args in
-    c.refusal_word.ensures ∙ rw (le-ltb a.n (2 ^ 62) c.if-n-lt4611686018427387904.false) refl
+    c.refusal_word.ensures ∙ rw c.of_text.ensures (rw (le-ltb a.n (2 ^ 62) c.if-n-lt4611686018427387904.false) refl)

@@ -3,14 +3,9 @@ use mathlib.Core.Path.{sym, ap, ◌∙◌}
 use Rattle.sam_header_words.specs.Words.{verdict_word}
 use Rattle.sam_header_words.proofs.verdict_word.Goals as goal
 
-pub returns-in-Accepted : goal.returns-in-Accepted
+pub returns-in-Ok : goal.returns-in-Ok
 unfolding verdict_word
-returns-in-Accepted c = sym (ap verdict_word c.in-Accepted.is)
+returns-in-Ok c = sym (ap verdict_word c.in-Ok.is)
 
-pub returns-in-Unfit : goal.returns-in-Unfit
-unfolding verdict_word
-returns-in-Unfit c = c.unfit_word.ensures ∙ sym (ap verdict_word c.in-Unfit.is)
-
-pub returns-in-Unmerged : goal.returns-in-Unmerged
-unfolding verdict_word
-returns-in-Unmerged c = c.refusal_word.ensures ∙ sym (ap verdict_word c.in-Unmerged.is)
+pub returns-in-Err : goal.returns-in-Err
+returns-in-Err c = c.misfit_word.ensures ∙ sym (ap verdict_word c.in-Err.is)

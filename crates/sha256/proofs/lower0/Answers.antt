@@ -1,8 +1,9 @@
 -- `sha256::lower0` meets its contract: the machine's operations are the definition's.
-use mathlib.Core.Path.{refl}
+use Prim.Native.Nat.{◌/◌, ◌^◌}
+use Rattle.std.specs.Int.Bits.{bit_xor}
 use Rattle.format.specs.Sha256.{shr, rotr, σ0}
 use Rattle.sha256.proofs.lower0.Goals as goal
 
 pub returns : goal.returns
 unfolding σ0 rotr shr
-returns c = refl
+returns c = λ i. bit_xor (bit_xor (c.rotate_right.ensures i) (c.rotate_right-2.ensures i)) (c.args.x / 2 ^ 3)

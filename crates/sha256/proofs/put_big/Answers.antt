@@ -1,21 +1,14 @@
--- `sha256::put_big` meets its contract: four stores in a row are one `over`.
+-- `sha256::put_big` meets its contract: std's bytes are the number's, and they are written as one part.
+use mathlib.Core.Path.{ap, ◌∙◌}
 use native.Mathlib.Omega.{arith}
-use lib.ListN.{length-set}
-use Rattle.byte_slices.proofs.Over.{over-four}
+use lib.ListN.{length}
 use Rattle.byte_slices.specs.Over.{over}
-use mathlib.Core.Path.{◌∙◌, ap}
+use Rattle.byte_slices.proofs.Over.{put_over}
 use Rattle.sha256.proofs.Big.{big-four}
 use Rattle.sha256.proofs.put_big.Goals as goal
 
-pub bounds-out-at-2 : goal.bounds-out-at-2
-bounds-out-at-2 c = simp length-set (omega arith)
-
-pub bounds-out-at-3 : goal.bounds-out-at-3
-bounds-out-at-3 c = simp length-set (omega arith)
-
-pub bounds-out-at-4 : goal.bounds-out-at-4
-bounds-out-at-4 c = simp length-set (omega arith)
-
 pub returns : goal.returns
 returns c =
-    over-four c.args.out.now c.args.at _ _ _ _ c.requires ∙ ap (over c.args.out.now c.args.at) (big-four c.args.v)
+    let a = c.args in
+    let e = c.copy_from_slice.ensures.after ∙ c.to_be_bytes.ensures in
+    put_over a.out.now _ a.at _ (omega (arith, ap length e)) ∙ ap (over a.out.now a.at) (e ∙ big-four a.v)

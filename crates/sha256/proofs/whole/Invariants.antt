@@ -1,10 +1,6 @@
-use Prim.Native.Nat.{◌-◌, ◌≤◌}
 use Rattle.sha256.specs.Parts.{value_of}
 use Rattle.sha256.proofs.Blocks.{Begun}
 use Rattle.sha256.proofs.whole.Given as goal
 
 abbrev pub invariant-loop-i : goal.invariant-loop-i
-invariant-loop-i l = (l.i ≤ l.blocks) × Begun l.text l.blocks (value_of l.s) l.i
-
-abbrev pub decreases-loop-i : goal.decreases-loop-i
-decreases-loop-i l = l.blocks - l.i
+invariant-loop-i l = Begun l.text l.blocks (value_of l.s) l.i

@@ -1,5 +1,4 @@
--- `sip_runs::main` is safe and ends: it counts up to 64. Assumes nothing.
-use Prim.Native.Nat.{◌-◌}
+-- `sip_runs::main` is safe: each message is within the 64 bytes. Assumes nothing.
 use mathlib.Core.Path.{refl, sym}
 use native.Mathlib.Omega.{arith}
 use lib.ListN.{length-set}

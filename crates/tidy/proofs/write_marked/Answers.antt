@@ -20,7 +20,7 @@ use Rattle.tidy.proofs.Writing.{measured-bad, measured-is}
 use Rattle.tidy_text.specs.Sifted.{is_marked, sifted}
 use Rattle.tidy_text.proofs.Sifting.{sifted-small}
 use Rattle.tidy.proofs.write_marked.Goals as goal
-use Rattle.tidy.proofs.write_marked.Goals.{After-total-n, In-Is, Start}
+use Rattle.tidy.proofs.write_marked.Goals.{After-total-n, In-Ok, Start}
 
 -- all records, and those that stay
 abbrev all : Start → List Record
@@ -33,16 +33,16 @@ abbrev asked : Start → Answer (List ℕ)
 asked s = writing (length s.args.out.now) (unwritable 0 (all s)) (tidy (stay s))
 
 -- every name can be written, and the sizes are those of the text
-measured : (c : In-Is) → ((unwritable 0 (all (goal.at.In-Is c).Start) ≡ none) × (sizes_of (stay (goal.at.In-Is c).Start) ≡ c.in-Is.sizes))
+measured : (c : In-Ok) → ((unwritable 0 (all (goal.at.In-Ok c).Start) ≡ none) × (sizes_of (stay (goal.at.In-Ok c).Start) ≡ c.in-Ok.sizes))
 measured c =
-    measured-is (unwritable 0 (all (goal.at.In-Is c).Start)) (sizes_of (stay (goal.at.In-Is c).Start)) c.in-Is.sizes (sym c.measure_marked.ensures.is ∙ c.in-Is.is)
+    measured-is (unwritable 0 (all (goal.at.In-Ok c).Start)) (sizes_of (stay (goal.at.In-Ok c).Start)) c.in-Ok.sizes (sym c.measure_marked.ensures.is ∙ c.in-Ok.is)
 
 -- how many bytes it has
-sum : (c : In-Is) → total c.in-Is.sizes ≡ length (tidy (stay (goal.at.In-Is c).Start))
-sum c = ap total (sym (measured c).1) ∙ total_size (stay (goal.at.In-Is c).Start)
+sum : (c : In-Ok) → total c.in-Ok.sizes ≡ length (tidy (stay (goal.at.In-Ok c).Start))
+sum c = ap total (sym (measured c).1) ∙ total_size (stay (goal.at.In-Ok c).Start)
 
 counted : (c : After-total-n) → length (tidy (stay (goal.at.After-total-n c).Start)) ≡ c.total-n.result
-counted c = sym (c.total-n.ensures ∙ sum (goal.at.After-total-n c).In-Is)
+counted c = sym (c.total-n.ensures ∙ sum (goal.at.After-total-n c).In-Ok)
 
 pub total-n-requires : goal.total-n-requires
 total-n-requires c =
@@ -51,29 +51,29 @@ total-n-requires c =
 
 pub returns-then-unfit-ne0 : goal.returns-then-unfit-ne0
 returns-then-unfit-ne0 c =
-    let told = refused-answer (asked (goal.at.returns-then-unfit-ne0 c).Start) c.args.out.now c.fit-unfit.result (record { 0 = 0 })
-    (write-unfit (length c.args.out.now) (unwritable 0 (all (goal.at.returns-then-unfit-ne0 c).Start)) (tidy (stay (goal.at.returns-then-unfit-ne0 c).Start)) (measured (goal.at.returns-then-unfit-ne0 c).In-Is).0 (c.total-n.result + 0) c.fit-unfit.result (omega (arith, counted (goal.at.returns-then-unfit-ne0 c).After-total-n)) c.fit-unfit.ensures c.if-unfit-ne0.true) in
-    record { answer = told.0; wrote = told.1 }
+    let told = refused-answer (asked (goal.at.returns-then-unfit-ne0 c).Start) c.args.out.now (record { number = c.fit-unfit.result; line = record { 0 = 0 } })
+    (write-unfit (length c.args.out.now) (unwritable 0 (all (goal.at.returns-then-unfit-ne0 c).Start)) (tidy (stay (goal.at.returns-then-unfit-ne0 c).Start)) (measured (goal.at.returns-then-unfit-ne0 c).In-Ok).0 (c.total-n.result + 0) c.fit-unfit.result (omega (arith, counted (goal.at.returns-then-unfit-ne0 c).After-total-n)) c.fit-unfit.ensures c.if-unfit-ne0.true) in
+    record { answer = rw c.of_text.ensures told.0; wrote = told.1 }
 
 pub put_marked-n-requires : goal.put_marked-n-requires
 put_marked-n-requires c =
     let fits = unfit-not (c.total-n.result + 0) 0 (length c.args.out.now) c.fit-unfit.result c.fit-unfit.ensures c.if-unfit-ne0.false in record {
       text_value = c.requires.text_value;
       reads_by = c.requires.reads_by;
-      sizes_value = sym (measured (goal.at.put_marked-n-requires c).In-Is).1;
+      sizes_value = sym (measured (goal.at.put_marked-n-requires c).In-Ok).1;
       text_in_bounds = omega (arith, counted (goal.at.put_marked-n-requires c).After-total-n, fits.1);
     }
 
-pub returns-in-Unwritable : goal.returns-in-Unwritable
-returns-in-Unwritable c =
-    let l = c.in-Unwritable.line in
-    let told = refused-answer (asked (goal.at.returns-in-Unwritable c).Start) c.args.out.now 24 l
-    (write-bad (length c.args.out.now) (unwritable 0 (all (goal.at.returns-in-Unwritable c).Start)) (tidy (stay (goal.at.returns-in-Unwritable c).Start)) l.0 (measured-bad (unwritable 0 (all (goal.at.returns-in-Unwritable c).Start)) (sizes_of (stay (goal.at.returns-in-Unwritable c).Start)) l (sym c.measure_marked.ensures.is ∙ c.in-Unwritable.is))) in
+pub returns-in-Err : goal.returns-in-Err
+returns-in-Err c =
+    let l = c.in-Err.line in
+    let told = refused-answer (asked (goal.at.returns-in-Err c).Start) c.args.out.now (record { number = 24; line = l })
+    (write-bad (length c.args.out.now) (unwritable 0 (all (goal.at.returns-in-Err c).Start)) (tidy (stay (goal.at.returns-in-Err c).Start)) l.0 (measured-bad (unwritable 0 (all (goal.at.returns-in-Err c).Start)) (sizes_of (stay (goal.at.returns-in-Err c).Start)) l (sym c.measure_marked.ensures.is ∙ c.in-Err.is))) in
     record { answer = told.0; wrote = told.1 }
 
 pub returns-else-unfit-ne0 : goal.returns-else-unfit-ne0
 returns-else-unfit-ne0 c =
     let told = written-answer (asked (goal.at.returns-else-unfit-ne0 c).Start) c.args.out.now (tidy (stay (goal.at.returns-else-unfit-ne0 c).Start)) c.put_marked-n.new.out c.put_marked-n.result
-    (write-fits (length c.args.out.now) (unwritable 0 (all (goal.at.returns-else-unfit-ne0 c).Start)) (tidy (stay (goal.at.returns-else-unfit-ne0 c).Start)) (measured (goal.at.returns-else-unfit-ne0 c).In-Is).0 (c.total-n.result + 0) c.fit-unfit.result (omega (arith, counted (goal.at.returns-else-unfit-ne0 c).After-total-n)) c.fit-unfit.ensures c.if-unfit-ne0.false)
+    (write-fits (length c.args.out.now) (unwritable 0 (all (goal.at.returns-else-unfit-ne0 c).Start)) (tidy (stay (goal.at.returns-else-unfit-ne0 c).Start)) (measured (goal.at.returns-else-unfit-ne0 c).In-Ok).0 (c.total-n.result + 0) c.fit-unfit.result (omega (arith, counted (goal.at.returns-else-unfit-ne0 c).After-total-n)) c.fit-unfit.ensures c.if-unfit-ne0.false)
     c.put_marked-n.ensures.next c.put_marked-n.ensures.wrote in
     record { answer = told.0; wrote = told.1 }

@@ -17,12 +17,12 @@ pub returns-then-text-gt65535 : goal.returns-then-text-gt65535
 returns-then-text-gt65535 c =
     let a = c.args in
     let e = sym (program-long a.text.now c.if-text-gt65535.true) in record {
-      next = c.put_refusal.ensures.next ∙ ap length e;
-      wrote = c.put_refusal.ensures.wrote ∙ ap (over a.out.now 0) e;
+      next = c.put_refusal.ensures.next ∙ ap (λ r. length (refusal r.number r.line.0)) c.of_text.ensures ∙ ap length e;
+      wrote = c.put_refusal.ensures.wrote ∙ ap (λ r. over a.out.now 0 (refusal r.number r.line.0)) c.of_text.ensures ∙ ap (over a.out.now 0) e;
     }
 
-pub put_refusal-requires-in-Refused : goal.put_refusal-requires-in-Refused
-put_refusal-requires-in-Refused c = refusal-fits _ _ _ (omega arith)
+pub put_refusal-requires-in-Err : goal.put_refusal-requires-in-Err
+put_refusal-requires-in-Err c = refusal-fits _ _ _ (omega arith)
 
 -- what the program writes is what the tidying call answered
 taken : (c : After-tidy) → (let a = c.args in
@@ -32,21 +32,21 @@ taken c =
     let room : 65536 ≡ length a.out.now = omega arith in
     program-taken a.text.now c.if-text-gt65535.false ∙ ap (λ k. said (tidying a.text.now k)) room
 
-pub returns-in-Count : goal.returns-in-Count
-returns-in-Count c =
+pub returns-in-Ok : goal.returns-in-Ok
+returns-in-Ok c =
     let a = c.args in
-    let e = sym (taken (goal.at.returns-in-Count c).After-tidy) in
-    let told = told-count (tidying a.text.now (length a.out.now)) c.in-Count.n (sym c.tidy.ensures.answer ∙ c.in-Count.is) in record {
+    let e = sym (taken (goal.at.returns-in-Ok c).After-tidy) in
+    let told = told-count (tidying a.text.now (length a.out.now)) c.in-Ok.n (sym c.tidy.ensures.answer ∙ c.in-Ok.is) in record {
       next = told.0 ∙ ap length e;
       wrote = c.tidy.ensures.wrote ∙ told.1 a.out.now ∙ ap (over a.out.now 0) e;
     }
 
-pub returns-in-Refused : goal.returns-in-Refused
-returns-in-Refused c =
+pub returns-in-Err : goal.returns-in-Err
+returns-in-Err c =
     let a = c.args in
-    let told = told-refused (tidying a.text.now (length a.out.now)) c.in-Refused.n c.in-Refused.line (sym c.tidy.ensures.answer ∙ c.in-Refused.is) in
-    let e : refusal c.in-Refused.n c.in-Refused.line.0 ≡ program a.text.now = sym (taken (goal.at.returns-in-Refused c).After-tidy ∙ told.0) in
+    let told = told-refused (tidying a.text.now (length a.out.now)) c.in-Err.why (sym c.tidy.ensures.answer ∙ c.in-Err.is) in
+    let e : refusal c.in-Err.why.number c.in-Err.why.line.0 ≡ program a.text.now = sym (taken (goal.at.returns-in-Err c).After-tidy ∙ told.0) in
     let kept : c.tidy.new.out ≡ a.out.now = c.tidy.ensures.wrote ∙ told.1 a.out.now in record {
-      next = c.put_refusal-in-Refused.ensures.next ∙ ap length e;
-      wrote = c.put_refusal-in-Refused.ensures.wrote ∙ ap (λ o. over o 0 (refusal c.in-Refused.n c.in-Refused.line.0)) kept ∙ ap (over a.out.now 0) e;
+      next = c.put_refusal-in-Err.ensures.next ∙ ap length e;
+      wrote = c.put_refusal-in-Err.ensures.wrote ∙ ap (λ o. over o 0 (refusal c.in-Err.why.number c.in-Err.why.line.0)) kept ∙ ap (over a.out.now 0) e;
     }

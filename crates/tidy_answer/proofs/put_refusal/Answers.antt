@@ -11,8 +11,8 @@ use Rattle.tidy_answer.proofs.put_refusal.Goals as goal
 use Rattle.tidy_answer.proofs.put_refusal.Goals.{After-write_u32-at-2, Start}
 
 -- the whole line fits, piece by piece
-size : (s : Start) → length (refusal s.args.n s.args.line.0) ≡ 8 + length (written s.args.n) + 6 + length (written s.args.line.0) + 1
-size s = refusal-size s.args.n s.args.line.0
+size : (s : Start) → length (refusal s.args.why.number s.args.why.line.0) ≡ 8 + length (written s.args.why.number) + 6 + length (written s.args.why.line.0) + 1
+size s = refusal-size s.args.why.number s.args.why.line.0
 
 pub put_bytes-requires : goal.put_bytes-requires
 put_bytes-requires c = omega (arith, c.requires, size (goal.at.put_bytes-requires c).Start)
@@ -35,7 +35,7 @@ write_u32-at-requires-2 c =
 
 -- the four writes before the LF
 before : (c : After-write_u32-at-2)
-    → ((c.write_u32-at-2.result + 1 ≡ length (refusal c.args.n c.args.line.0))
+    → ((c.write_u32-at-2.result + 1 ≡ length (refusal c.args.why.number c.args.why.line.0))
     × (length c.write_u32-at-2.new.out ≡ length c.args.out.now))
 before c =
     (omega (arith, size (goal.at.After-write_u32-at-2 c).Start, c.write_u32-at.ensures.next, c.write_u32-at-2.ensures.next), c.write_u32-at-2.auto.out ∙ c.put_bytes-2.auto.out ∙ c.write_u32-at.auto.out ∙ c.put_bytes.auto.out)
@@ -56,7 +56,7 @@ unfolding spelled_refused spelled_line
 returns c =
     let a = c.args in
     let whole =
-    refusal-wrote a.out.now a.n a.line.0 c.requires c.put_bytes.new.out c.write_u32-at.new.out c.put_bytes-2.new.out c.write_u32-at-2.new.out c.write_u32-at.result c.write_u32-at-2.result
+    refusal-wrote a.out.now a.why.number a.why.line.0 c.requires c.put_bytes.new.out c.write_u32-at.new.out c.put_bytes-2.new.out c.write_u32-at-2.new.out c.write_u32-at.result c.write_u32-at-2.result
     (refl, c.put_bytes.ensures) (c.write_u32-at.ensures.next, c.write_u32-at.ensures.wrote) (refl, c.put_bytes-2.ensures) (c.write_u32-at-2.ensures.next, c.write_u32-at-2.ensures.wrote) (before (goal.at.returns c).After-write_u32-at-2).1 in record {
       next = (before (goal.at.returns c).After-write_u32-at-2).0;
       wrote = whole.1;

@@ -1,6 +1,7 @@
 -- `tidy_line::head_len` meets its contract: the parts that the head names are counted, and each is short.
 use Prim.Native.Nat.{ℕ, ◌+◌, ◌≤◌}
-use mathlib.Core.Path.{◌≡◌, refl, sym, ap, subst, ◌∙◌}
+use Rattle.std.proofs.Common.{rules}
+use mathlib.Core.Path.{◌≡◌, sym, ap, subst, ◌∙◌}
 use native.Mathlib.Omega.{arith}
 use Rattle.decimal.proofs.Written.{written-short}
 use Rattle.record.specs.declared.Head.{Head}
@@ -39,22 +40,6 @@ overflow_add-result-in-ReferenceSequence-2 c = omega (arith, number_short c)
 pub overflow_add-result-in-ReferenceSequence-3 : goal.overflow_add-result-in-ReferenceSequence-3
 overflow_add-result-in-ReferenceSequence-3 c = omega (arith, number_short c, c.requires.0)
 
-pub overflow_add-result-in-ReadGroup : goal.overflow_add-result-in-ReadGroup
-overflow_add-result-in-ReadGroup c = omega (arith, short (goal.at.overflow_add-result-in-ReadGroup c).Start _ c.in-ReadGroup.is)
-
-pub overflow_add-result-in-ReadGroup-2 : goal.overflow_add-result-in-ReadGroup-2
-overflow_add-result-in-ReadGroup-2 c = omega (arith, short (goal.at.overflow_add-result-in-ReadGroup-2 c).Start _ c.in-ReadGroup.is, c.requires.0)
-
-pub overflow_add-result-in-Program : goal.overflow_add-result-in-Program
-overflow_add-result-in-Program c = omega (arith, short (goal.at.overflow_add-result-in-Program c).Start _ c.in-Program.is)
-
-pub overflow_add-result-in-Program-2 : goal.overflow_add-result-in-Program-2
-overflow_add-result-in-Program-2 c = omega (arith, short (goal.at.overflow_add-result-in-Program-2 c).Start _ c.in-Program.is, c.requires.0)
-
-pub returns-in-Refused : goal.returns-in-Refused
-unfolding head_length
-returns-in-Refused c = length-by (goal.at.returns-in-Refused c).Start _ c.in-Refused.is _ refl
-
 pub returns-in-Header : goal.returns-in-Header
 unfolding head_length
 returns-in-Header c =
@@ -65,14 +50,10 @@ unfolding head_length
 returns-in-ReferenceSequence c =
     length-by (goal.at.returns-in-ReferenceSequence c).Start _ c.in-ReferenceSequence.is _ (ap (λ n. 12 + c.in-ReferenceSequence.p.len + n + c.args.others) c.len_u64.ensures)
 
+pub returns-in-Refused : goal.returns-in-Refused
+unfolding head_length
+returns-in-Refused c = search rules
+
 pub returns-in-ReadGroup : goal.returns-in-ReadGroup
 unfolding head_length
-returns-in-ReadGroup c = length-by (goal.at.returns-in-ReadGroup c).Start _ c.in-ReadGroup.is _ refl
-
-pub returns-in-Program : goal.returns-in-Program
-unfolding head_length
-returns-in-Program c = length-by (goal.at.returns-in-Program c).Start _ c.in-Program.is _ refl
-
-pub returns-in-Comment : goal.returns-in-Comment
-unfolding head_length
-returns-in-Comment c = length-by (goal.at.returns-in-Comment c).Start _ c.in-Comment.is _ refl
+returns-in-ReadGroup c = search rules

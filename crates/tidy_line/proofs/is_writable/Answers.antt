@@ -1,20 +1,15 @@
 -- `tidy_line::is_writable` meets its contract: only an SQ has a name to look at, and its SN is found.
 use Prim.Native.Nat.{ℕ, ◌+◌, ◌-◌, ◌≤◌}
-use mathlib.Core.Path.{◌≡◌, refl, sym, ap, subst, ◌∙◌}
+use mathlib.Core.Path.{◌≡◌, refl, sym, ap, ◌∙◌}
 use mathlib.Core.Bool.{true, false}
-use mathlib.Core.List.{List, [], ◌∷◌}
-use mathlib.Core.Logic.{⊎_elim}
+use mathlib.Core.List.{List}
 use native.Mathlib.Omega.{arith}
-use types.Run.{OneOf}
-use denote.Enum.Declared.{tag_of}
 use lib.ListN.{length}
 use Rattle.format.specs.Bytes.{between, letter, digit}
 use Rattle.format.specs.Fields.{is_tag, last_of}
 use Rattle.format.specs.Records.{line}
 use Rattle.format.specs.Tidy.{is_name}
-use Rattle.format.specs.declared.Kind.{Kind}
 use Rattle.format.specs.declared.Kind.TheVariants as kind
-use Rattle.format.specs.contracts.Kind
 use Rattle.record.specs.Head.{head_of}
 use Rattle.record.specs.declared.Head.{Head}
 use Rattle.record.specs.declared.Head.TheVariants as head

@@ -9,7 +9,7 @@ use Rattle.accepted_line.specs.Form.{IsForm}
 use Rattle.accepted_line.specs.declared.Form.{Form}
 use Rattle.accepted_line.proofs.Lax.{line-lax}
 use Rattle.tidy_line.specs.Line.{line_size}
-use Rattle.tidy_line.specs.declared.Size.TheVariants.{Is}
+use Rattle.std.specs.Prelude.{Some}
 use Rattle.tidy_line.proofs.Whole.{comment-text}
 use Rattle.tidy_line.proofs.line_size.Goals as goal
 use Rattle.tidy_line.proofs.line_size.Goals.{After-form_of, Start}
@@ -42,7 +42,7 @@ returns-in-Comment c =
     let a = c.args in
     let i = formed (goal.at.returns-in-Comment c).After-form_of _ c.in-Comment.is in
     let w = comment-text a.at a.src.now i.accepted i.kind in
-    rw (same (goal.at.returns-in-Comment c).Start, w.1) (ap Is (omega (arith, ap length w.0, length-append a.src.now (10 ∷ []))))
+    rw (same (goal.at.returns-in-Comment c).Start, w.1) (ap Some (omega (arith, ap length w.0, length-append a.src.now (10 ∷ []))))
 
 pub returns-in-Once : goal.returns-in-Once
 returns-in-Once c = c.once_size.ensures ∙ ap line_size (sym (same (goal.at.returns-in-Once c).Start))

@@ -5,7 +5,7 @@ use borrow.Author.Tests.{not-true, not-false}
 use Rattle.accepted_line.specs.Tables.{Walkable}
 use Rattle.accepted_line.proofs.Noting.{noting, noted-line}
 use Rattle.tidy_line.specs.Line.{line_size}
-use Rattle.tidy_line.specs.declared.Size.TheVariants.{Is}
+use Rattle.std.specs.Prelude.{Some}
 use Rattle.tidy_line.proofs.noted_size.Goals as goal
 use Rattle.tidy_line.proofs.noted_size.Goals.{After-note_tags}
 
@@ -54,4 +54,4 @@ parts_len-requires c = record {
 pub returns : goal.returns
 unfolding line_size
 returns c =
-    rw (sym c.is_writable.ensures ∙ not-false c.is_writable.result c.if-not-is_writable.false-raw) (ap Is c.parts_len.ensures)
+    rw (sym c.is_writable.ensures ∙ not-false c.is_writable.result c.if-not-is_writable.false-raw) (ap Some c.parts_len.ensures)

@@ -18,7 +18,7 @@ use Rattle.accepted_line.specs.declared.KeyValues.{KeyValues}
 use Rattle.tidy_line.specs.Line.{line_writable, line_size}
 use Rattle.tidy_fields.specs.Others.{others_text}
 use Rattle.tidy_line.specs.Heads.{keys_length}
-use Rattle.tidy_line.specs.declared.Size.TheVariants.{Is}
+use Rattle.std.specs.Prelude.{Some}
 use Rattle.tidy_line.proofs.Whole.{ready-text}
 use Rattle.tidy_line.proofs.Once.{once-others}
 use Rattle.tidy_line.proofs.once_size.Goals as goal
@@ -68,7 +68,7 @@ unfolding line_size
 returns-then-is_ready c =
     let a = c.args in
     let w = ready-text a.at a.src.now c.requires.line_of.accepted c.requires.at_field a.kind c.requires.line_of.kind (sym c.is_ready.ensures ∙ c.if-is_ready.true) in
-    rw w.1 (ap Is (omega (arith, ap length w.0, length-append a.src.now (10 ∷ []))))
+    rw w.1 (ap Some (omega (arith, ap length w.0, length-append a.src.now (10 ∷ []))))
 
 pub is_writable-requires : goal.is_writable-requires
 is_writable-requires c = record {
@@ -107,4 +107,4 @@ parts_len-requires c = record {
 pub returns : goal.returns
 unfolding line_size
 returns c =
-    rw (writable (goal.at.returns c).Else-not-is_writable) (ap Is c.parts_len.ensures)
+    rw (writable (goal.at.returns c).Else-not-is_writable) (ap Some c.parts_len.ensures)

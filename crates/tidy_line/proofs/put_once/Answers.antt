@@ -1,6 +1,5 @@
 -- `tidy_line::put_once` meets its contract: the line as it is where that is its record's text, else part by part.
-use Prim.Native.Nat.{◌+◌}
-use mathlib.Core.Path.{◌≡◌, sym, ap, subst, ◌∙◌}
+use mathlib.Core.Path.{◌≡◌, sym, ap, ◌∙◌}
 use mathlib.Core.Bool.{false}
 use mathlib.Core.List.{[], ◌∷◌, ◌++◌}
 use native.Mathlib.Omega.{arith}
@@ -9,7 +8,6 @@ use Rattle.format.specs.Records.{line}
 use Rattle.accepted_line.proofs.fields.Start.{once-walkable}
 use Rattle.accepted_line.proofs.Finds.{three}
 use Rattle.tidy_line.specs.Line.{line_text}
-use Rattle.tidy_parts.proofs.Wrote.{Wrote}
 use Rattle.tidy_line.proofs.Whole.{whole-text}
 use Rattle.tidy_line.proofs.put_once.Goals as goal
 use Rattle.tidy_line.proofs.put_once.Goals.{Then-is_neat}

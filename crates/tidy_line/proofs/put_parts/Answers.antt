@@ -1,11 +1,10 @@
 -- `tidy_line::put_parts` meets its contract: the head of an accepted line says which record is to be written, and its text.
 use Prim.Native.Nat.{◌+◌, ◌≤◌}
-use mathlib.Core.Path.{◌≡◌, sym, subst}
+use mathlib.Core.Path.{◌≡◌, subst}
 use native.Mathlib.Omega.{arith}
 use lib.ListN.{length}
 use Rattle.record.specs.declared.Head.{Head}
 use Rattle.tidy_line.specs.Heads.{head_text, KeyInLine}
-use Rattle.tidy_parts.proofs.Wrote.{Wrote}
 use Rattle.tidy_line.proofs.Heads.{Told, told}
 use Rattle.tidy_line.proofs.put_parts.Goals as goal
 use Rattle.tidy_line.proofs.put_parts.Goals.{After-head_of-head}

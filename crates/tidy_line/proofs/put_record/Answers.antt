@@ -1,6 +1,6 @@
 -- `tidy_line::put_record` meets its contract: a line that is accepted is accepted where repeated tags are allowed too, as the same record.
 use Prim.Native.Nat.{◌+◌, ◌≤◌}
-use mathlib.Core.Path.{◌≡◌, sym, ap, subst, ◌∙◌}
+use mathlib.Core.Path.{◌≡◌, ap, subst, ◌∙◌}
 use mathlib.Core.Bool.{false}
 use mathlib.Core.List.{[], ◌∷◌, ◌++◌}
 use native.Mathlib.Omega.{arith}
@@ -11,7 +11,6 @@ use Rattle.accepted_line.specs.declared.Form.{Form}
 use Rattle.accepted_line.proofs.Lax.{line-lax}
 use Rattle.accepted_line.proofs.Noting.{noting, noted-line}
 use Rattle.tidy_line.specs.Line.{line_text}
-use Rattle.tidy_parts.proofs.Wrote.{Wrote}
 use Rattle.tidy_line.proofs.Whole.{comment-text}
 use Rattle.tidy_line.proofs.put_record.Goals as goal
 use Rattle.tidy_line.proofs.put_record.Goals.{After-form_of, In-Comment, Start}

@@ -1,7 +1,10 @@
 -- `tidy_name::is_name` meets its contract: the name at the front is all of the bytes.
 use Prim.Native.Nat.{ℕ}
-use mathlib.Core.Path.{◌≡◌, refl, ap, ◌∙◌}
-use mathlib.Core.Bool.{false}
+use mathlib.Core.Path.{◌≡◌, refl, sym, ap, ◌∙◌}
+use mathlib.Core.Bool.{false, not}
+use borrow.Author.Tests.{eqb-true}
+use Rattle.std.proofs.lemmas.Bool.{eqb-false}
+use Rattle.std.proofs.Common.{◌≢◌}
 use mathlib.Core.List.{List, [], ◌∷◌}
 use native.Mathlib.Omega.{arith}
 use lib.ListN.{length}
@@ -15,10 +18,13 @@ unfolding is_name
 empty [] h = refl
 empty (b ∷ s) h = absurd (omega arith)
 
-pub returns-then-s-eq0 : goal.returns-then-s-eq0
-returns-then-s-eq0 c = empty _ c.if-s-eq0.true
-
-pub returns : goal.returns
-returns c =
+pub returns-then-not-is_empty : goal.returns-then-not-is_empty
+returns-then-not-is_empty c =
     let s = c.args.s.now in
-    ap (λ n. eqb n (length s)) c.name_len.ensures ∙ name-whole s (omega (arith, c.if-s-eq0.false))
+    let l : length s ≢ 0 = eqb-false (length s) 0 (sym c.is_empty.ensures ∙ c.if-not-is_empty.true) in
+    ap (λ n. eqb n (length s)) c.name_len.ensures ∙ name-whole s (omega (arith, l))
+
+pub returns-else-not-is_empty : goal.returns-else-not-is_empty
+returns-else-not-is_empty c =
+    let e = c.if-not-is_empty.false in
+    ap not e ∙ empty _ (eqb-true _ _ (sym c.is_empty.ensures ∙ e))

@@ -1,7 +1,7 @@
 -- `tidy_neat::is_plain_length` meets its contract: each test is one of the definition's.
 use mathlib.Core.Path.{refl, sym, ◌∙◌}
 use borrow.Author.Tests.{lt-ltb, le-ltb, not-true, not-false}
-use Rattle.tidy_neat.specs.Neat.{has_tag, plain_length}
+use Rattle.tidy_neat.specs.Neat.{plain_length}
 use Rattle.tidy_neat.proofs.is_plain_length.Goals as goal
 
 pub returns-then-not-has_tag : goal.returns-then-not-has_tag

@@ -1,14 +1,9 @@
 -- `tidy_neat::is_ready` meets its contract: only an SQ has a name to look at.
 use Prim.Native.Nat.{ℕ}
 use mathlib.Core.Path.{◌≡◌, refl, sym, ap, ◌∙◌}
-use mathlib.Core.List.{List, [], ◌∷◌}
-use mathlib.Core.Logic.{⊎_elim}
-use native.Mathlib.Omega.{arith}
-use types.Run.{OneOf}
-use denote.Enum.Declared.{tag_of}
+use mathlib.Core.List.{List}
 use Rattle.format.specs.declared.Kind.{Kind}
 use Rattle.format.specs.declared.Kind.TheVariants.{Header, ReferenceSequence, ReadGroup, Program, Comment}
-use Rattle.format.specs.contracts.Kind
 use Rattle.tidy_neat.specs.Neat.{neat, ready}
 use Rattle.tidy_neat.proofs.is_ready.Goals as goal
 

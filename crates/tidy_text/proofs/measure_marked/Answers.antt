@@ -1,5 +1,5 @@
 -- `tidy_text::measure_marked` meets its contract: what is asked of the whole text is asked of the lines still to come.
-use Prim.Native.Nat.{ℕ, ◌+◌, ◌-◌, ◌≤◌}
+use Prim.Native.Nat.{ℕ, ◌+◌, ◌≤◌}
 use mathlib.Core.Path.{◌≡◌, sym, ap, ◌∙◌}
 use mathlib.Core.Bool.{Bool, true, false, cond}
 use mathlib.Core.List.{List}
@@ -17,7 +17,7 @@ use Rattle.tidy_text.specs.Kinds.{kind_text}
 use Rattle.tidy_sizes.specs.Numbers.{get}
 use Rattle.tidy_text.specs.Sizes.{sizes_of}
 use Rattle.accepted_line.specs.Found.{kind_by}
-use Rattle.tidy_text.specs.declared.Measured.TheVariants as measured
+use Rattle.std.specs.Prelude.{Ok}
 use Rattle.tidy_text.proofs.Lines.{Opened, opened, Turn, turn, ended}
 use Rattle.tidy_text.proofs.OfKind.{only, three, line-kind}
 use Rattle.tidy_text.proofs.Total.{size, tidy-small}
@@ -27,7 +27,7 @@ use Rattle.tidy_text.specs.Sifted.{is_marked, sifted, stay_by}
 use Rattle.tidy_text.proofs.Sifting.{is-pg, line-pg, sifted-small, sifted-none, next_le, grow-bad, grow-is, stay-size}
 use Rattle.tidy_text.proofs.Refused.{measured-told}
 use Rattle.tidy_text.proofs.measure_marked.Goals as goal
-use Rattle.tidy_text.proofs.measure_marked.Goals.{After-first_line-cut, After-stay_of-s, In-Is, Start}
+use Rattle.tidy_text.proofs.measure_marked.Goals.{After-first_line-cut, After-stay_of-s, In-Some, Start}
 
 begun : (s : Start) → Opened s.args.strict s.args.text.now
 begun s = opened s.args.strict s.args.text.now s.requires.text_value s.requires.reads_by
@@ -91,12 +91,12 @@ room c h =
     )
 
 -- it can be written, and the sizes with it
-sized : (z : In-Is)
-    → ((line_writable (line_of (goal.at.In-Is z).After-first_line-cut) ≡ true)
-    × ((i : Kind) → get i z.in-Is.next + size i (sifted (p-of (goal.at.In-Is z).After-first_line-cut) z.stay_of-s.result.next (rest_of (goal.at.In-Is z).After-first_line-cut)) ≡ get i z.loop-at.sizes + size i (sifted (p-of (goal.at.In-Is z).After-first_line-cut) z.loop-at.k (with_record (line_of (goal.at.In-Is z).After-first_line-cut) (rest_of (goal.at.In-Is z).After-first_line-cut)))))
+sized : (z : In-Some)
+    → ((line_writable (line_of (goal.at.In-Some z).After-first_line-cut) ≡ true)
+    × ((i : Kind) → get i z.in-Some.next + size i (sifted (p-of (goal.at.In-Some z).After-first_line-cut) z.stay_of-s.result.next (rest_of (goal.at.In-Some z).After-first_line-cut)) ≡ get i z.loop-at.sizes + size i (sifted (p-of (goal.at.In-Some z).After-first_line-cut) z.loop-at.k (with_record (line_of (goal.at.In-Some z).After-first_line-cut) (rest_of (goal.at.In-Some z).After-first_line-cut)))))
 sized z =
     let a = z.args in
-    grow-is a.marks.now z.loop-at.k (kind_at (goal.at.In-Is z).After-first_line-cut) (line_of (goal.at.In-Is z).After-first_line-cut) (rest_of (goal.at.In-Is z).After-first_line-cut) (turned (goal.at.In-Is z).After-first_line-cut).read (goes (goal.at.In-Is z).After-first_line-cut) z.stay_of-s.result (steps (goal.at.In-Is z).After-stay_of-s) z.loop-at.sizes z.in-Is.next (sym z.with_line_if-grown.ensures ∙ z.in-Is.is)
+    grow-is a.marks.now z.loop-at.k (kind_at (goal.at.In-Some z).After-first_line-cut) (line_of (goal.at.In-Some z).After-first_line-cut) (rest_of (goal.at.In-Some z).After-first_line-cut) (turned (goal.at.In-Some z).After-first_line-cut).read (goes (goal.at.In-Some z).After-first_line-cut) z.stay_of-s.result (steps (goal.at.In-Some z).After-stay_of-s) z.loop-at.sizes z.in-Some.next (sym z.with_line_if-grown.ensures ∙ z.in-Some.is)
 
 pub loop-at-init : goal.loop-at-init
 loop-at-init c =
@@ -181,8 +181,8 @@ loop-at-preserved c =
       t.within,
       (omega (arith, c.loop-at.invariant.1.0, t.onward), omega (arith, c.loop-at.invariant.1.1, t.onward, next_le a.marks.now c.loop-at.k _ c.stay_of-s.result c.stay_of-s.ensures)),
       t.rest,
-      asked (goal.at.loop-at-preserved c).After-first_line-cut ∙ cond-is (line_writable (line_of (goal.at.loop-at-preserved c).After-first_line-cut)) true _ _ (sized (goal.at.loop-at-preserved c).In-Is).0,
-      (λ i. (sized (goal.at.loop-at-preserved c).In-Is).1 i ∙ ap (λ rs. get i c.loop-at.sizes + size i (sifted (p-of (goal.at.loop-at-preserved c).After-first_line-cut) c.loop-at.k rs)) (sym t.records) ∙ c.loop-at.invariant.4 i),
+      asked (goal.at.loop-at-preserved c).After-first_line-cut ∙ cond-is (line_writable (line_of (goal.at.loop-at-preserved c).After-first_line-cut)) true _ _ (sized (goal.at.loop-at-preserved c).In-Some).0,
+      (λ i. (sized (goal.at.loop-at-preserved c).In-Some).1 i ∙ ap (λ rs. get i c.loop-at.sizes + size i (sifted (p-of (goal.at.loop-at-preserved c).After-first_line-cut) c.loop-at.k rs)) (sym t.records) ∙ c.loop-at.invariant.4 i),
     )
 
 pub returns : goal.returns
@@ -194,5 +194,5 @@ returns c =
     let none = unwritable-ended a.strict a.text.now c.loop-at.at c.loop-at-test.false c.loop-at.l in
     let e = ended a.strict a.text.now c.loop-at.at c.loop-at-test.false in
     let all : c.loop-at.sizes ≡ sizes_of rs = each-get c.loop-at.sizes (λ i. size i rs) (λ i. omega (arith, c.loop-at.invariant.4 i, ap (λ xs. size i (sifted p c.loop-at.k xs)) e, ap (size i) (sifted-none p c.loop-at.k), ap length (size_none i))) in
-    let told = measured-told (unwritable 0 (records_of a.text.now)) (sizes_of rs) _ (ap measured.Is all ∙ sym (ap (λ o. measured_of o (sizes_of rs)) (c.loop-at.invariant.3 ∙ none))) in
+    let told = measured-told (unwritable 0 (records_of a.text.now)) (sizes_of rs) _ (ap Ok all ∙ sym (ap (λ o. measured_of o (sizes_of rs)) (c.loop-at.invariant.3 ∙ none))) in
     record { is = told.0; refusal = told.1 }

@@ -1,5 +1,4 @@
 -- `tidy_text::put_at_kind_if` meets its contract: the record goes to the place of its kind, which moves past it.
-use Prim.Native.Nat.{◌-◌}
 use mathlib.Core.Path.{◌≡◌, sym, ap, ap₂, ◌∙◌}
 use native.Mathlib.Omega.{arith}
 use lib.ListN.{get_or}

@@ -1,5 +1,5 @@
 -- `tidy_text::put_lines` meets its contract: what is written, and what the lines still to come will write, is all.
-use Prim.Native.Nat.{ℕ, ◌+◌, ◌-◌}
+use Prim.Native.Nat.{ℕ, ◌+◌}
 use mathlib.Core.Path.{◌≡◌, refl, sym, ap, ap₂, subst, ◌∙◌}
 use mathlib.Core.Bool.{Bool}
 use mathlib.Core.List.{List}
@@ -15,7 +15,6 @@ use Rattle.tidy_text.specs.Placed.{with_parts, parts, Apart}
 use Rattle.accepted_line.specs.Found.{kind_by}
 use Rattle.tidy_text.proofs.Lines.{Opened, opened, Turn, turn, ended}
 use Rattle.tidy_text.proofs.OfKind.{only, three, line-kind}
-use Rattle.tidy_text.proofs.Total.{size}
 use Rattle.tidy_text.proofs.Parts.{placed-none}
 use Rattle.tidy_text.specs.Sifted.{is_marked, sifted, stay_by}
 use Rattle.tidy_text.proofs.Sifting.{is-pg, line-pg, sifted-none, next_le, stay-room, stay-apart, stay-same}

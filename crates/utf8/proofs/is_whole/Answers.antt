@@ -1,5 +1,5 @@
 -- `utf8::is_whole` meets its contract: what the whole asks is what is left to judge, with what is due of the character that is begun.
-use Prim.Native.Nat.{ℕ, zero, suc, ◌+◌, ◌-◌, ◌≤◌, ◌<◌}
+use Prim.Native.Nat.{ℕ, zero, suc, ◌+◌, ◌≤◌, ◌<◌}
 use mathlib.Core.Path.{◌≡◌, refl, sym, ap, ◌∙◌}
 use mathlib.Core.List.{List, [], ◌∷◌}
 use native.Mathlib.Omega.{arith}
@@ -27,23 +27,15 @@ module _ (s : List ℕ) (i : ℕ) (p : Pending) where
       go zero = refl
       go (suc n) = sym (le-ltb (suc n) 1 (omega arith))
 
-pub loop-i-init : goal.loop-i-init
+pub loop-b-init : goal.loop-b-init
 unfolding due_of ranges
-loop-i-init c = (omega arith, ap (λ p. characters (due_of p) c.args.s.now) (sym c.new-pending.ensures))
+loop-b-init c = ap (λ p. characters (due_of p) c.args.s.now) (sym c.new-pending.ensures)
 
-pub bounds-s-i : goal.bounds-s-i
-bounds-s-i c = omega arith
-
-pub overflow_add-i : goal.overflow_add-i
-overflow_add-i c = omega arith
-
-pub loop-i-smaller : goal.loop-i-smaller
-loop-i-smaller c = omega arith
-
-pub loop-i-preserved : goal.loop-i-preserved
-loop-i-preserved c =
+pub loop-b-preserved : goal.loop-b-preserved
+loop-b-preserved c =
     let s = c.args.s.now in
-    (omega arith, c.loop-i.invariant.1 ∙ more s c.loop-i.i c.loop-i.pending (omega arith) ∙ ap (λ p. characters (due_of p) (drop (c.loop-i.i + 1) s)) (sym c.with-pending.ensures))
+    let l = c.loop-b in
+    l.invariant ∙ more s l.b-index l.pending (omega arith) ∙ ap (λ p. characters (due_of p) (drop (l.b-index + 1) s)) (sym c.with-pending.ensures)
 
 pub returns : goal.returns
-returns c = sym (c.loop-i.invariant.1 ∙ spent _ c.loop-i.i c.loop-i.pending (omega arith))
+returns c = sym (c.loop-b.invariant ∙ spent _ c.loop-b.b-index c.loop-b.pending (omega arith))

@@ -1,8 +1,5 @@
-use Prim.Native.Nat.{◌+◌, ◌-◌, ◌≤◌}
+use Prim.Native.Nat.{◌+◌, ◌≤◌}
 use Rattle.utf8_runs.proofs.seconds.Given as goal
 
 abbrev pub invariant-loop-second : goal.invariant-loop-second
 invariant-loop-second l = l.run ≤ l.second + 1
-
-abbrev pub decreases-loop-second : goal.decreases-loop-second
-decreases-loop-second l = 255 - l.second

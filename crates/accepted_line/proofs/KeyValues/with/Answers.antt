@@ -1,4 +1,4 @@
--- `accepted_line::Keys::with` meets its contract.
+-- `accepted_line::KeyValues::with` meets its contract.
 use borrow.Author.Tests.{eq-eqb, ne_eqb}
 use Rattle.accepted_line.specs.Keys.{with_key}
 use Rattle.accepted_line.proofs.KeyValues.with.Goals as goal

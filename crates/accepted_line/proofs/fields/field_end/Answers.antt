@@ -1,5 +1,5 @@
 -- `accepted_line::fields::field_end` meets its contract: the part that is lent is the rest of the line, and the tab is in it or it ends.
-use Prim.Native.Nat.{ℕ, ◌+◌, ◌-◌}
+use Prim.Native.Nat.{ℕ, ◌+◌}
 use mathlib.Core.Path.{◌≡◌, ap, ◌∙◌}
 use native.Mathlib.Omega.{arith}
 use lib.ListN.{drop, length-drop}

@@ -1,6 +1,6 @@
 -- `accepted_line::fields::has_no_repeat` meets its contract.
 use Prim.Native.Nat.{ℕ}
-use mathlib.Core.Path.{◌≡◌, refl}
+use mathlib.Core.Path.{◌≡◌, refl, ◌∙◌}
 use mathlib.Core.List.{List, [], ◌∷◌}
 use native.Mathlib.Omega.{arith}
 use lib.ListN.{length}
@@ -15,4 +15,4 @@ empty [] = refl
 empty (x ∷ t) = ne_eqb (length (x ∷ t)) 0 (λ e. absurd (omega (arith, e)))
 
 pub returns : goal.returns
-returns c = empty _
+returns c = c.is_empty.ensures ∙ empty _

@@ -1,7 +1,6 @@
 -- `accepted_line::fields::is_first_of_tag` meets its contract: where no tag is repeated it is known, and otherwise the tables say.
 use Prim.Native.Nat.{◌+◌, ◌≤◌, ◌<◌}
 use mathlib.Core.Path.{◌≡◌, refl, sym, ap, ◌∙◌}
-use mathlib.Core.Bool.{false}
 use native.Mathlib.Omega.{arith}
 use lib.ListN.{length, get_or}
 use lib.Dec.{eqb}

@@ -1,11 +1,9 @@
 -- `field::value::is_printable_block` meets its contract: after `i` bytes the flag says whether all of them may be in a value.
-use Prim.Native.Nat.{◌-◌}
 use mathlib.Core.Path.{◌≡◌, sym, ap, ◌∙◌}
-use mathlib.Core.Logic.{⊎_elim}
 use native.Mathlib.Omega.{arith}
 use lib.ListN.{drop}
 use lib.Dec.{leb}
-use borrow.Author.Tests.{le-leb, not-true, not-false}
+use borrow.Author.Tests.{le-leb}
 use Rattle.format.specs.Bytes.{printable}
 use Rattle.byte_slices.specs.Run.{run}
 use Rattle.byte_slices.proofs.Run.{flag-pass, flag-stop}

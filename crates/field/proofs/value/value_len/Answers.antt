@@ -1,5 +1,5 @@
 -- `field::value::value_len` meets its contract: what the whole asks is what is left to do at the place `i`.
-use Prim.Native.Nat.{ℕ, ◌*◌, ◌/◌, ◌-◌, ◌≤◌}
+use Prim.Native.Nat.{ℕ, ◌*◌, ◌/◌, ◌≤◌}
 use mathlib.Core.Path.{◌≡◌, sym, ◌∙◌}
 use mathlib.Core.List.{List}
 use native.Mathlib.Omega.{arith}
@@ -21,9 +21,6 @@ started s i e = (omega (arith, run-le printable s), left-run s i (omega arith))
 pub loop-i-init : goal.loop-i-init
 loop-i-init c = started _ _ c.pass_printable-i.ensures
 
-pub bounds-src-i : goal.bounds-src-i
-bounds-src-i c = omega arith
-
 pub returns-then-b-eq9 : goal.returns-then-b-eq9
 returns-then-b-eq9 c =
     sym (c.loop-i.invariant.1 ∙ at-tab _ c.loop-i.i (omega arith) c.if-b-eq9.true)
@@ -32,16 +29,11 @@ pub returns-then-not-is_printable : goal.returns-then-not-is_printable
 returns-then-not-is_printable c =
     sym (c.loop-i.invariant.1 ∙ at-wrong _ c.loop-i.i (omega arith) c.if-b-eq9.false (sym c.is_printable.ensures ∙ not-true _ c.if-not-is_printable.true-raw))
 
-pub overflow_add-i : goal.overflow_add-i
-overflow_add-i c = omega arith
-
-pub loop-i-smaller : goal.loop-i-smaller
-loop-i-smaller c = omega arith
-
 pub loop-i-preserved : goal.loop-i-preserved
 loop-i-preserved c =
     (omega arith, c.loop-i.invariant.1 ∙ at_next _ c.loop-i.i (omega arith) (sym c.is_printable.ensures ∙ not-false _ c.if-not-is_printable.false-raw))
 
 pub returns : goal.returns
 returns c =
-    sym (c.loop-i.invariant.1 ∙ at-end _ c.loop-i.i c.loop-i-test.false)
+    let e : length c.args.src.now ≡ c.loop-i.i = omega arith in
+    e ∙ sym (c.loop-i.invariant.1 ∙ at-end _ c.loop-i.i c.loop-i-test.false)

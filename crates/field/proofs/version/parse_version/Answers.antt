@@ -8,7 +8,7 @@ use Rattle.format.specs.Decimal.{number}
 use Rattle.format.specs.Version.{version, both}
 use Rattle.byte_slices.proofs.Lines.{upto_le}
 use Rattle.field.specs.Spelled.{parsed_version_of, version_side_of}
-use Rattle.field.specs.declared.version.ParsedVersion.TheVariants.{Is, Invalid}
+use Rattle.std.specs.Prelude.{Some, None}
 use Rattle.byte_slices.proofs.Before.{rest}
 use Rattle.field.proofs.version.Sides.{version-none, version-sides, no-major, no-minor, major-minor}
 use Rattle.field.proofs.version.Refused.{version-told}
@@ -29,15 +29,15 @@ split c = version-sides c.args.src.now c.upto-dot.result c.upto-dot.ensures (ins
 pub returns-then-dot-src : goal.returns-then-dot-src
 unfolding parsed_version_of
 returns-then-dot-src c =
-    let told = version-told _ Invalid (sym (ap parsed_version_of (version-none _ (sym c.upto-dot.ensures ∙ c.if-dot-src.true)))) in
+    let told = version-told _ None (sym (ap parsed_version_of (version-none _ (sym c.upto-dot.ensures ∙ c.if-dot-src.true)))) in
     record { is = told.0; refusal = told.1 }
 
 pub slice_bounds-parse_part-end : goal.slice_bounds-parse_part-end
 slice_bounds-parse_part-end c = sym (length-take-le _ _ (omega (arith, inside c)))
 
-pub returns-in_default : goal.returns-in_default
-returns-in_default c =
-    let told = version-told _ Invalid (sym (ap parsed_version_of (split (goal.at.returns-in_default c).Else-dot-src) ∙ no-major _ _ (sym c.in_default.is ∙ c.parse_part.ensures))) in
+pub returns-in_err-major : goal.returns-in_err-major
+returns-in_err-major c =
+    let told = version-told _ c.from_residual.result (c.from_residual.ensures ∙ sym (ap parsed_version_of (split (goal.at.returns-in_err-major c).Else-dot-src) ∙ no-major _ _ (sym c.in_err-major.was ∙ c.parse_part.ensures))) in
     record { is = told.0; refusal = told.1 }
 
 pub overflow_add-dot : goal.overflow_add-dot
@@ -61,16 +61,16 @@ minor : (c : After-parse_part-2)
 minor c =
     c.parse_part-2.ensures ∙ ap (λ l. version_side_of (number (2 ^ 32) l)) (rest (c.upto-dot.result + 1) c.args.src.now)
 
-pub returns-in_default-parse_part : goal.returns-in_default-parse_part
-returns-in_default-parse_part c =
-    let told = version-told _ Invalid (sym (ap parsed_version_of (split (goal.at.returns-in_default-parse_part c).Else-dot-src) ∙ no-minor _ _ (sym c.in_default-parse_part.is ∙ minor (goal.at.returns-in_default-parse_part c).After-parse_part-2))) in
+pub returns-in_err-minor : goal.returns-in_err-minor
+returns-in_err-minor c =
+    let told = version-told _ c.from_residual-in_err-minor.result (c.from_residual-in_err-minor.ensures ∙ sym (ap parsed_version_of (split (goal.at.returns-in_err-minor c).Else-dot-src) ∙ no-minor _ _ (sym c.in_err-minor.was ∙ minor (goal.at.returns-in_err-minor c).After-parse_part-2))) in
     record { is = told.0; refusal = told.1 }
 
 pub returns : goal.returns
 returns c =
-    let told = version-told _ (Is c.new.result)
-    (ap Is c.new.ensures
+    let told = version-told _ (Some c.new.result)
+    (ap Some c.new.ensures
     ∙ sym
     (ap parsed_version_of (split (goal.at.returns c).Else-dot-src)
-    ∙ major-minor _ _ _ _ (sym c.in-Is.is ∙ c.parse_part.ensures) (sym c.in-Is-parse_part.is ∙ minor (goal.at.returns c).After-parse_part-2))) in
+    ∙ major-minor _ _ _ _ (sym c.in_ok-major.was ∙ c.parse_part.ensures) (sym c.in_ok-minor.was ∙ minor (goal.at.returns c).After-parse_part-2))) in
     record { is = told.0; refusal = told.1 }

@@ -1,5 +1,5 @@
 -- `key_look::hash::hash_words` meets its contract: the number so far and the words that are left lead to the same.
-use Prim.Native.Nat.{◌+◌, ◌-◌}
+use Prim.Native.Nat.{◌+◌}
 use mathlib.Core.Path.{◌≡◌, refl, sym, ap, ◌∙◌}
 use native.Mathlib.Omega.{arith}
 use lib.ListN.{take, drop}

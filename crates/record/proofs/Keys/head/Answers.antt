@@ -1,13 +1,15 @@
 -- `record::Keys::head` meets its contract: the kind says what is needed.
-use mathlib.Core.Path.{◌≡◌, refl, ap, ◌∙◌}
-use mathlib.Core.Bool.{true, false}
-use borrow.Author.Tests.{eq-eqb, ne_eqb, not-true, not-false}
+use mathlib.Core.Path.{◌≡◌, refl, sym}
+use borrow.Author.Tests.{eq-eqb, ne_eqb}
+use Rattle.std.specs.Prelude.{Option}
+use Rattle.format.specs.declared.Version.{Version}
 use Rattle.format.specs.declared.Kind.{Kind}
 use Rattle.format.specs.declared.Kind.TheVariants as kind
 use Rattle.record.specs.declared.Keys.{Keys}
 use Rattle.record.specs.declared.Stretch.{Stretch}
-use Rattle.record.specs.declared.Head.TheVariants.{Refused, Header, ReferenceSequence, ReadGroup, Program}
-use Rattle.record.specs.Keys.{head_from}
+use Rattle.record.specs.declared.Head.{Head}
+use Rattle.record.specs.declared.Head.TheVariants.{Refused, ReferenceSequence, ReadGroup, Program}
+use Rattle.record.specs.Keys.{versioned_head, head_from}
 use Rattle.record.proofs.Keys.head.Goals as goal
 
 -- by kind, and by what is there
@@ -15,13 +17,9 @@ module _ (k : Kind) (keys : Keys) where
   place : Stretch
   place = record { at = keys.key_at; len = keys.key_len }
 
-  no-version : k ≡ kind.Header → keys.versioned ≡ false → Refused 15 ≡ head_from k keys
+  by-version : (o : Option Version) (h : Head) → k ≡ kind.Header → keys.version ≡ o → versioned_head o keys.others ≡ h → h ≡ head_from k keys
   unfolding head_from
-  no-version e t = rw (e, t) refl
-
-  versioned : k ≡ kind.Header → keys.versioned ≡ true → Header (record { major = keys.major; minor = keys.minor }) keys.others ≡ head_from k keys
-  unfolding head_from
-  versioned e t = rw (e, t) refl
+  by-version o h e t q = rw (e, t) (sym q)
 
   module _ (e : k ≡ kind.ReferenceSequence) where
     no_name : keys.key_len ≡ 0 → Refused 15 ≡ head_from k keys
@@ -59,8 +57,13 @@ module _ (k : Kind) (keys : Keys) where
   unfolding head_from
   no_fields e = rw e refl
 
-pub returns-then-not-self : goal.returns-then-not-self
-returns-then-not-self c = no-version _ _ c.in-Header.is (not-true _ c.if-not-self.true)
+pub returns-in-None : goal.returns-in-None
+unfolding versioned_head
+returns-in-None c = by-version _ _ _ _ c.in-Header.is c.in-None.is refl
+
+pub returns-in-Some : goal.returns-in-Some
+unfolding versioned_head
+returns-in-Some c = by-version _ _ _ _ c.in-Header.is c.in-Some.is refl
 
 pub returns-then-self-eq0 : goal.returns-then-self-eq0
 returns-then-self-eq0 c = no_name _ _ c.in-ReferenceSequence.is c.if-self-eq0.true
@@ -73,11 +76,6 @@ returns-then-self-eq0-3 c = no-group _ _ c.in-ReadGroup.is c.if-self-eq0-3.true
 
 pub returns-then-self-eq0-4 : goal.returns-then-self-eq0-4
 returns-then-self-eq0-4 c = no_program_lem _ _ c.in-Program.is c.if-self-eq0-4.true
-
-pub returns-else-not-self : goal.returns-else-not-self
-returns-else-not-self c =
-    let a = c.args in
-    ap (λ v. Header v a.self.others) c.new.ensures ∙ versioned _ _ c.in-Header.is (not-false _ c.if-not-self.false)
 
 pub returns-else-self-eq0-2 : goal.returns-else-self-eq0-2
 unfolding place

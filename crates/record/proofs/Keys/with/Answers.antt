@@ -1,9 +1,11 @@
 -- `record::Keys::with` meets its contract: which key it is, or none.
 use Prim.Native.Nat.{ℕ, ◌+◌}
-use mathlib.Core.Path.{◌≡◌, refl, sym, ◌∙◌}
+use mathlib.Core.Path.{◌≡◌, refl, sym, ap, ◌∙◌}
 use mathlib.Core.Bool.{Bool, true, false}
 use native.Mathlib.Numerals.{add-one}
 use borrow.Author.Tests.{not-true, not-false}
+use Rattle.std.specs.Prelude.{Some}
+use Rattle.format.specs.declared.Version.{Version}
 use Rattle.format.specs.declared.Kind.{Kind}
 use Rattle.field.specs.declared.ParsedField.{ParsedField}
 use Rattle.field_tag.specs.Numbers.{is_version, is_length}
@@ -24,9 +26,7 @@ module _ (k : Kind) (f : ParsedField) (at : ℕ) (again : Bool) (keys : Keys) wh
           key_at = keys.key_at;
           key_len = keys.key_len;
           length = keys.length;
-          major = keys.major;
-          minor = keys.minor;
-          versioned = keys.versioned;
+          version = keys.version;
           others = keys.others + 1;
         })
         (with_field k f at again keys)
@@ -58,7 +58,8 @@ returns-then-not-is_key c =
 pub returns-then-is_version : goal.returns-then-is_version
 unfolding with_version
 returns-then-is_version c =
-    version _ _ _ _ _ (sym c.is_key.ensures ∙ not-false _ c.if-not-is_key.false-raw) (sym c.is_version.ensures ∙ c.if-is_version.true)
+    ap (λ (v : Version). record c.args.self { version = Some v }) c.new.ensures
+    ∙ version _ _ _ _ _ (sym c.is_key.ensures ∙ not-false _ c.if-not-is_key.false-raw) (sym c.is_version.ensures ∙ c.if-is_version.true)
 
 pub returns-then-is_length : goal.returns-then-is_length
 unfolding with_length

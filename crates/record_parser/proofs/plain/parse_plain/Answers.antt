@@ -9,6 +9,7 @@ use Rattle.format.specs.Fields.{is_value}
 use Rattle.byte_slices.specs.Upto.{before}
 use Rattle.byte_slices.proofs.Before.{rest}
 use Rattle.field.specs.Taken.{taken_of}
+use Rattle.std.specs.Prelude.{Some}
 use Rattle.record_parser.specs.Plain.{TagAt, LengthTold, plain_head}
 use Rattle.record_parser.proofs.Alone.{name-within, plain-made}
 use Rattle.record_parser.proofs.plain.parse_plain.Goals as goal
@@ -63,8 +64,8 @@ pub returns-then-not-has_tag_at-2 : goal.returns-then-not-has_tag_at-2
 unfolding plain_head
 returns-then-not-has_tag_at-2 c at strict = refl
 
-pub overflow_add-from : goal.overflow_add-from
-overflow_add-from c = omega (arith, (ln c).room)
+pub overflow_add-name_len-2 : goal.overflow_add-name_len-2
+overflow_add-name_len-2 c = omega (arith, (ln c).room)
 
 pub slice_bounds-whole_length-count : goal.slice_bounds-whole_length-count
 slice_bounds-whole_length-count c = omega (arith, (ln c).room)
@@ -72,15 +73,15 @@ slice_bounds-whole_length-count c = omega (arith, (ln c).room)
 pub slice_bounds-whole_length-start : goal.slice_bounds-whole_length-start
 slice_bounds-whole_length-start c = omega (arith, (ln c).room)
 
-pub returns-then-length-eq0 : goal.returns-then-length-eq0
+pub returns-in_err-length : goal.returns-in_err-length
 unfolding plain_head
-returns-then-length-eq0 c at strict = refl
+returns-in_err-length c at strict = rw c.from_residual.ensures refl
 
 pub returns : goal.returns
 unfolding plain_head
 returns c at strict =
     let s = line (goal.at.returns c).Else-not-is_between in
     let n = c.value_len-name_len.result in
-    let l = c.whole_length-length.result in
-    let e : LengthTold (drop (11 + n) s) l = rw (rest (11 + n) s) at c.whole_length-length.ensures in
-    plain-made s n l _ (sn (goal.at.returns c).Else-not-has_tag_at) (name (goal.at.returns c).Else-name_len-eq0) c.if-name_len-eq0.false (ln (goal.at.returns c).Else-not-has_tag_at-2) (e c.if-length-eq0.false) (length-drop (11 + n) s) at strict
+    let l = c.in_ok-length.length in
+    let e : LengthTold (drop (11 + n) s) (Some l) = rw (rest (11 + n) s) at c.in_ok-length.ensures in
+    plain-made s n l _ (sn (goal.at.returns c).Else-not-has_tag_at) (name (goal.at.returns c).Else-name_len-eq0) c.if-name_len-eq0.false (ln (goal.at.returns c).Else-not-has_tag_at-2) e (length-drop (11 + n) s) at strict

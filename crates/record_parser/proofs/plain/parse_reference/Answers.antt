@@ -12,5 +12,5 @@ pub returns : goal.returns
 unfolding plain_head
 returns c =
     let a = c.args in
-    ap (plain_head a.at (head_of (fielded a.strict ReferenceSequence (a.at + 3) (drop 3 a.src.now)))) (sym c.in-Is.is)
+    ap (plain_head a.at (head_of (fielded a.strict ReferenceSequence (a.at + 3) (drop 3 a.src.now)))) (sym c.in-Some.is)
     ∙ c.parse_plain.ensures a.at a.strict
