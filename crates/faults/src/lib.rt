@@ -51,58 +51,42 @@ fn faults_indexed(text: &[u8], area: &mut [u32], table: &mut [u32]) -> CountAnsw
     write_faults(text, b, area, links, table)
 }
 
-// A short text, in blocks of 384 lines with a key. Its area is small, so little has to be cleared.
-fn faults_short(text: &[u8], table: &mut [u32]) -> CountAnswer
-    requires { length text.now ≤ 16777216 }
-    ensures answer { result ≡ faulty_lines (faulting text.now (length table.old)) }
-    ensures listed { table.new ≡ output_of (faulting text.now (length table.old)) table.old }
-{
-    let mut area = [0u32; read_judge::SHORT_SLOTS];
-    faults_indexed(text, &mut area, table)
-}
-
-// A text of some thousands of lines, in blocks of 4,608.
-fn faults_middle(text: &[u8], table: &mut [u32]) -> CountAnswer
-    requires { length text.now ≤ 16777216 }
-    ensures answer { result ≡ faulty_lines (faulting text.now (length table.old)) }
-    ensures listed { table.new ≡ output_of (faulting text.now (length table.old)) table.old }
-{
-    let mut area = [0u32; read_judge::OWN_SLOTS];
-    faults_indexed(text, &mut area, table)
-}
-
-// Any text, in blocks of 147,456 lines; its programs are linked `more` times again before the rows are written. Nobody asks for more than once. The
-// function calls itself so that it is compiled as a function of its own, and its 768 KiB are on the stack only while it runs (see
-// `carry_on::carry_long`).
-fn faults_long(text: &[u8], b: Begin, table: &mut [u32], more: usize) -> CountAnswer
+// The faults of a text with an area of this function's own, of so many slots: in blocks of three lines with a key for every four of them.
+fn faults_own<const SLOTS: usize>(text: &[u8], table: &mut [u32]) -> CountAnswer
     requires text_len_bound { length text.now ≤ 16777216 }
-    requires first { First text.now b }
+    requires in_bounds { 4 ≤ SLOTS }
+    requires slots_bound { SLOTS ≤ 196608 }
     ensures answer { result ≡ faulty_lines (faulting text.now (length table.old)) }
     ensures listed { table.new ≡ output_of (faulting text.now (length table.old)) table.old }
 {
-    let mut area = [0u32; read_judge::LONG_SLOTS];
-    let links = fault_programs::link_kept(text, b, &mut area);
-    if 0 < more {
-        let lines = faults_long(text, b, table, more - 1)?;
-        return Ok(lines);
-    }
-    write_faults(text, b, &mut area, links, table)
+    let mut area = [0u32; SLOTS];
+    faults_indexed(text, &mut area, table)
 }
 
-// Picks the area by the length of a text that is not too long. No text is long enough to be linked twice, but the compiler can't know that.
+// Any text, in blocks of 147,456 lines with a key. It is compiled as a function of its own, so that its 768 KiB are on the stack only while it runs,
+// and not in the frames of its callers, which serve short texts too.
+#[inline(never)]
+fn faults_long(text: &[u8], table: &mut [u32]) -> CountAnswer
+    requires { length text.now ≤ 16777216 }
+    ensures answer { result ≡ faulty_lines (faulting text.now (length table.old)) }
+    ensures listed { table.new ≡ output_of (faulting text.now (length table.old)) table.old }
+{
+    faults_own::<{ read_judge::LONG_SLOTS }>(text, table)
+}
+
+// Picks the area by the length of a text that is not too long: a small area takes little clearing, and has blocks of 384 or of 4,608 lines.
 fn faults_by_length(text: &[u8], table: &mut [u32]) -> CountAnswer
     requires { length text.now ≤ 16777216 }
     ensures answer { result ≡ faulty_lines (faulting text.now (length table.old)) }
     ensures listed { table.new ≡ output_of (faulting text.now (length table.old)) table.old }
 {
     if text.len() <= read_judge::SHORT {
-        return faults_short(text, table);
+        return faults_own::<{ read_judge::SHORT_SLOTS }>(text, table);
     }
     if text.len() <= read_judge::MIDDLE {
-        return faults_middle(text, table);
+        return faults_own::<{ read_judge::OWN_SLOTS }>(text, table);
     }
-    let b = carry_early::find_first(text);
-    faults_long(text, b, table, b.line as usize / (format::LONGEST + 1))
+    faults_long(text, table)
 }
 
 // Writes the number and the fault of each faulty line of `text`, in order, to the front of `table`, and answers how many there are. Refuses with 1 if
