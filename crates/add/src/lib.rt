@@ -4,7 +4,9 @@
 ghost use Rattle.std.specs.Prelude.{◌≡◌, true, false, not, ◌||◌, cond, ◌≤◌, ◌<◌, min, length, ltb};
 ghost use Rattle.format.specs.Fields.{last_of};
 ghost use Rattle.format.specs.Reading.{read_text};
-ghost use Rattle.format.specs.Programs.{programs, leaves};
+ghost use Rattle.format.specs.Programs.{programs, links, leaves};
+ghost use Rattle.format.specs.Catalogue as format;
+ghost use Rattle.program_parents.specs.Parents.{graph_of};
 ghost use Rattle.format.specs.Adding.{given};
 ghost use Rattle.format.specs.Calls.{yes, fresh, adding};
 ghost use Rattle.byte_slices.specs.Over.{over};
@@ -21,6 +23,7 @@ ghost use Rattle.add.specs.Added.{grown_text, writing_grown, planning, is_none, 
 
 use add_lines::Shape;
 use format::Refusal;
+use program_chains::Ordinals;
 use read::CountAnswer;
 use record::Stretch;
 use tidy_sizes::PerKind;
@@ -244,6 +247,18 @@ fn add_after(
     write_added(text, ids, prefix, fields, leaves, ways, out)
 }
 
+// The leaves of an accepted text, from its own catalogue; refuses with 22 or 23. It is compiled as a function of its own, so that the parents are not on
+// the stack while the text is written.
+#[inline(never)]
+fn find_own_leaves(text: &[u8], catalogue: &[u8]) -> Result<Ordinals, u8>
+    requires text_value { is_accepted (read_text text.now) ≡ true }
+    requires catalogue_value { catalogue.now ≡ format.catalogue (records_of text.now) }
+    ensures { result ≡ graph_of (links (programs (records_of text.now))) }
+{
+    let parents = program_parents::parents_of(text, catalogue);
+    program_parents::find_leaves(&parents)
+}
+
 // Adds programs to a text whose catalogue is fresh: 26, 22, 23, 18, 19, 24, 1, 20.
 fn add_fresh(
     text: &[u8],
@@ -273,8 +288,7 @@ fn add_fresh(
     }
     let linked = is_linked(previous);
     let known = Known { linked, strict };
-    let parents = program_parents::parents_of(text, catalogue);
-    match program_parents::find_leaves(&parents) {
+    match find_own_leaves(text, catalogue) {
         Err(refusal) => Err(Refusal::of_text(refusal)),
         Ok(found) => {
             let leaves = &found.list[..found.count];

@@ -36,7 +36,9 @@ fn is_covered(a: &[bool; 1024], b: &[bool; 1024], count: usize) -> bool
 }
 
 // Whether both lists are valid if A has `a` programs, B has `b` and the merged header has `count`: one ordinal below `count` per program, none twice
-// in a list, and every program of the merged header hit.
+// in a list, and every program of the merged header hit. It is compiled as a function of its own: its marks are not on the stack while the references are
+// compared.
+#[inline(never)]
 pub fn is_assigned(a: usize, b: usize, count: usize, list_a: &[u32], list_b: &[u32]) -> bool
     requires { count ≤ 1024 }
     ensures { result ≡ assigned a b count list_a.now list_b.now }
