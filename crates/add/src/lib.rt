@@ -247,9 +247,7 @@ fn add_after(
     write_added(text, ids, prefix, fields, leaves, ways, out)
 }
 
-// The leaves of an accepted text, from its own catalogue; refuses with 22 or 23. It is compiled as a function of its own, so that the parents are not on
-// the stack while the text is written.
-#[inline(never)]
+// The leaves of an accepted text, from its own catalogue; refuses with 22 or 23.
 fn find_own_leaves(text: &[u8], catalogue: &[u8]) -> Result<Ordinals, u8>
     requires text_value { is_accepted (read_text text.now) ≡ true }
     requires catalogue_value { catalogue.now ≡ format.catalogue (records_of text.now) }
@@ -288,8 +286,9 @@ fn add_fresh(
     }
     let linked = is_linked(previous);
     let known = Known { linked, strict };
-    match find_own_leaves(text, catalogue) {
-        Err(refusal) => Err(Refusal::of_text(refusal)),
+    let own = find_own_leaves(text, catalogue);
+    match &own { // not moved out: a copy takes 4 KiB of stack
+        Err(refusal) => Err(Refusal::of_text(*refusal)),
         Ok(found) => {
             let leaves = &found.list[..found.count];
             add_after(text, ids, prefix, fields, leaves, known, out)

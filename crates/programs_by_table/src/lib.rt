@@ -27,8 +27,7 @@ struct DeepGraph {
     leaves: Ordinals,
 }
 
-// Nothing found, because of a refusal. It is compiled as a function of its own, so that its arrays are on the stack only while it runs.
-#[inline(never)]
+// Nothing found, because of a refusal.
 fn nothing(refusal: u8) -> DeepGraph
     ensures { result ≡ no_graph_of refusal }
 {
@@ -84,8 +83,7 @@ pub struct TablePlan {
     pub count: usize,
 }
 
-// A refusal, with nothing for the table. It is compiled as a function of its own, so that its arrays are on the stack only while it runs.
-#[inline(never)]
+// A refusal, with nothing for the table.
 fn stopped(refusal: Refusal) -> TablePlan
     ensures { result ≡ stopped_plan_of refusal }
 {

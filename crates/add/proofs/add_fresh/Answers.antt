@@ -13,7 +13,9 @@ use Rattle.format.specs.Adding.{given, misformed}
 use Rattle.format.specs.Calls.{adding}
 use Rattle.accepted.specs.Read.{records_of}
 use Rattle.program_chains.specs.Parents.{in_array}
-use Rattle.program_chains.proofs.Arrays.{front, front-count, front-inside}
+use Rattle.program_chains.proofs.Arrays.{front, front-count}
+use Rattle.program_chains.proofs.Leaf.{leaves-length}
+use Rattle.program_parents.proofs.Numbers.{links-count}
 use Rattle.program_ids.specs.Search.{ids_of}
 use Rattle.program_parents.specs.Parents.{graph_of}
 use Rattle.program_parents.specs.Placed.{ListsIds}
@@ -27,7 +29,7 @@ use Rattle.add.specs.Added.{is_nothing, stray, leaves_of, adding_on}
 use Rattle.add.proofs.Prior.{nothing-none}
 use Rattle.add.proofs.Adding.{add-misformed, add-stray, add-tangled, add-on}
 use Rattle.add.proofs.add_fresh.Goals as goal
-use Rattle.add.proofs.add_fresh.Goals.{After-find_own_leaves, After-is_stray, After-list_ids-count, In-Ok, Else-not-is_in_form, Start}
+use Rattle.add.proofs.add_fresh.Goals.{After-find_own_leaves-own, After-is_stray, After-list_ids-count, In-Ok, Else-not-is_in_form, Start}
 
 -- the catalogue is the text's own
 own : (s : Start) → Current s.args.text.now s.args.catalogue.now
@@ -41,8 +43,8 @@ opens s = opened s.args.text.now s.args.catalogue.now (own s).reads (own s).own
 abbrev start : After-list_ids-count → Start
 start c = (goal.at.After-list_ids-count c).Start
 
-abbrev origin : After-find_own_leaves → Start
-origin c = start (goal.at.After-find_own_leaves c).After-list_ids-count
+abbrev origin : After-find_own_leaves-own → Start
+origin c = start (goal.at.After-find_own_leaves-own c).After-list_ids-count
 
 -- what is given is in form
 formed : (c : Else-not-is_in_form) → misformed c.args.prefix.now (given c.args.fields.now) ≡ false
@@ -62,26 +64,26 @@ prior c =
 
 -- ---- what is found
 
-abbrev ps : After-find_own_leaves → List Program
+abbrev ps : After-find_own_leaves-own → List Program
 ps c = programs (records_of (origin c).args.text.now)
 
-graph_is : (c : After-find_own_leaves) → c.find_own_leaves.result ≡ graph_of (links (ps c))
-graph_is c = c.find_own_leaves.ensures
+graph_is : (c : After-find_own_leaves-own) → c.find_own_leaves-own.result ≡ graph_of (links (ps c))
+graph_is c = c.find_own_leaves-own.ensures
 
 abbrev xs : (c : In-Ok) → List ℕ
-xs c = leaves (links (ps (goal.at.In-Ok c).After-find_own_leaves))
+xs c = leaves (links (ps (goal.at.In-Ok c).After-find_own_leaves-own))
 
-untangled : (c : In-Ok) → tangled (links (ps (goal.at.In-Ok c).After-find_own_leaves)) ≡ 0
-untangled c = graph-untangled (links (ps (goal.at.In-Ok c).After-find_own_leaves)) c.find_own_leaves.result (graph_is (goal.at.In-Ok c).After-find_own_leaves) c.in-Ok.found c.in-Ok.is
+untangled : (c : In-Ok) → tangled (links (ps (goal.at.In-Ok c).After-find_own_leaves-own)) ≡ 0
+untangled c = graph-untangled (links (ps (goal.at.In-Ok c).After-find_own_leaves-own)) c.find_own_leaves-own.result (graph_is (goal.at.In-Ok c).After-find_own_leaves-own) c.in-Ok.found c.in-Ok.is
 
 listed : (c : In-Ok) → c.in-Ok.found.list ≡ in_array (xs c)
-listed c = graph-list (links (ps (goal.at.In-Ok c).After-find_own_leaves)) c.find_own_leaves.result (graph_is (goal.at.In-Ok c).After-find_own_leaves) c.in-Ok.found c.in-Ok.is
+listed c = graph-list (links (ps (goal.at.In-Ok c).After-find_own_leaves-own)) c.find_own_leaves-own.result (graph_is (goal.at.In-Ok c).After-find_own_leaves-own) c.in-Ok.found c.in-Ok.is
 
 counted : (c : In-Ok) → c.in-Ok.found.count ≡ length (xs c)
-counted c = graph-count (links (ps (goal.at.In-Ok c).After-find_own_leaves)) c.find_own_leaves.result (graph_is (goal.at.In-Ok c).After-find_own_leaves) c.in-Ok.found c.in-Ok.is
+counted c = graph-count (links (ps (goal.at.In-Ok c).After-find_own_leaves-own)) c.find_own_leaves-own.result (graph_is (goal.at.In-Ok c).After-find_own_leaves-own) c.in-Ok.found c.in-Ok.is
 
 -- they are the leaves of the records, and there are some where there are programs
-leaves-are : (c : In-Ok) → take c.in-Ok.found.count c.in-Ok.found.list ≡ leaves_of (records_of (origin (goal.at.In-Ok c).After-find_own_leaves).args.text.now)
+leaves-are : (c : In-Ok) → take c.in-Ok.found.count c.in-Ok.found.list ≡ leaves_of (records_of (origin (goal.at.In-Ok c).After-find_own_leaves-own).args.text.now)
 unfolding leaves_of
 leaves-are c = front (xs c) c.in-Ok.found.list c.in-Ok.found.count (listed c) (counted c)
 
@@ -89,7 +91,7 @@ some : (c : In-Ok) → 0 < length (take (c.list_ids-count.result * 3) c.list_ids
 some c h =
     let few = (opens (start (goal.at.In-Ok c).After-list_ids-count)).few in
     let k = c.list_ids-count in
-    omega (arith, some-leaf (ps (goal.at.In-Ok c).After-find_own_leaves) few (untangled c) (omega (arith, h, (lists (goal.at.In-Ok c).After-list_ids-count).counts, length-take (k.result * 3) k.new.ids)), ap length (leaves-are c), (counted c), front-count (xs c) c.in-Ok.found.list c.in-Ok.found.count (listed c) (counted c))
+    omega (arith, some-leaf (ps (goal.at.In-Ok c).After-find_own_leaves-own) few (untangled c) (omega (arith, h, (lists (goal.at.In-Ok c).After-list_ids-count).counts, length-take (k.result * 3) k.new.ids)), ap length (leaves-are c), (counted c), front-count (xs c) c.in-Ok.found.list c.in-Ok.found.count (listed c) (counted c))
 
 pub returns-then-not-is_in_form : goal.returns-then-not-is_in_form
 returns-then-not-is_in_form c =
@@ -132,19 +134,19 @@ returns-then-is_stray c =
     (add-stray a.text.now a.catalogue.now (own (goal.at.returns-then-is_stray c).Start) a.prefix.now a.fields.now room (formed (goal.at.returns-then-is_stray c).Else-not-is_in_form) (prior (goal.at.returns-then-is_stray c).After-is_stray ∙ c.if-is_stray.true)) in
     record { answer = rw c.of_text-then-is_stray.ensures told.0; wrote = told.1 }
 
-pub find_own_leaves-requires : goal.find_own_leaves-requires
-find_own_leaves-requires c = let s = start (goal.at.find_own_leaves-requires c).After-list_ids-count in record {
+pub find_own_leaves-own-requires : goal.find_own_leaves-own-requires
+find_own_leaves-own-requires c = let s = start (goal.at.find_own_leaves-own-requires c).After-list_ids-count in record {
   text_value = (opens s).accepted;
   catalogue_value = (own s).own;
 }
 
 pub returns-in-Err : goal.returns-in-Err
 returns-in-Err c =
-    let s = origin (goal.at.returns-in-Err c).After-find_own_leaves in
+    let s = origin (goal.at.returns-in-Err c).After-find_own_leaves-own in
     let a = s.args in
     let room = length a.out.now in
     let n = c.in-Err.refusal in
-    let tangle = graph-refusal (links (ps (goal.at.returns-in-Err c).After-find_own_leaves)) c.find_own_leaves.result (graph_is (goal.at.returns-in-Err c).After-find_own_leaves) n c.in-Err.is in
+    let tangle = graph-refusal (links (ps (goal.at.returns-in-Err c).After-find_own_leaves-own)) c.find_own_leaves-own.result (graph_is (goal.at.returns-in-Err c).After-find_own_leaves-own) n c.in-Err.is in
     let told = refused-answer (adding a.text.now a.catalogue.now a.prefix.now a.fields.now room) a.out.now (record { number = n; line = record { 0 = 0 } })
     (add-tangled a.text.now a.catalogue.now (own s) a.prefix.now a.fields.now room (formed (goal.at.returns-in-Err c).Else-not-is_in_form) (prior (goal.at.returns-in-Err c).After-is_stray ∙ c.if-is_stray.false) n tangle.0 tangle.1) in
     record { answer = rw c.of_text-in-Err.ensures told.0; wrote = told.1 }
@@ -152,7 +154,8 @@ returns-in-Err c =
 pub shared_ref_as_front-leaves : goal.shared_ref_as_front-leaves
 shared_ref_as_front-leaves c =
     let e = (goal.at.shared_ref_as_front-leaves c).In-Ok in
-    omega (arith, front-inside (xs e) c.in-Ok.found.list c.in-Ok.found.count (listed e) (counted e))
+    let f = (goal.at.In-Ok e).After-find_own_leaves-own in
+    omega (arith, counted e, leaves-length (links (ps f)), links-count (ps f), (opens (origin f)).few)
 
 pub add_after-requires : goal.add_after-requires
 add_after-requires c =
@@ -170,7 +173,7 @@ add_after-requires c =
 
 pub returns-in-Ok : goal.returns-in-Ok
 returns-in-Ok c =
-    let s = origin (goal.at.returns-in-Ok c).After-find_own_leaves in
+    let s = origin (goal.at.returns-in-Ok c).After-find_own_leaves-own in
     let a = s.args in
     let room = length a.out.now in
     let on : adding_on (records_of a.text.now) a.prefix.now (given a.fields.now).fields room ≡ adding a.text.now a.catalogue.now a.prefix.now a.fields.now room =
