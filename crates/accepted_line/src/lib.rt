@@ -47,10 +47,26 @@ impl KeyValues {
     pub fn with(self, a: u8, v: Stretch) -> KeyValues
         ensures { result ≡ with_key self a v }
     {
+        let mut key_at = self.key.at;
+        let mut key_len = self.key.len;
+        let mut number_at = self.number.at;
+        let mut number_len = self.number.len;
         if a == b'L' {
-            KeyValues { number: v, ..self }
+            number_at = v.at;
+            number_len = v.len;
         } else {
-            KeyValues { key: v, ..self }
+            key_at = v.at;
+            key_len = v.len;
+        }
+        KeyValues {
+            key: Stretch {
+                at: key_at,
+                len: key_len,
+            },
+            number: Stretch {
+                at: number_at,
+                len: number_len,
+            },
         }
     }
 }

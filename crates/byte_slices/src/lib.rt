@@ -102,5 +102,7 @@ pub fn put_bytes(out: &mut [u8], at: usize, from: &[u8])
     requires { at + length from.now ≤ length out.old }
     ensures { out.new ≡ over out.old at from.now }
 {
-    out[at..at + from.len()].copy_from_slice(from);
+    for i in 0..from.len() {
+        out[at + i] = from[i];
+    }
 }

@@ -3,7 +3,7 @@ use Prim.Native.Nat.{ℕ, zero, suc, ◌+◌, ◌*◌, ◌/◌, ◌%◌, ◌^◌
 use mathlib.Core.Path.{◌≡◌, refl, sym, ap, ◌∙◌}
 use mathlib.Core.List.{List, [], ◌∷◌, ◌++◌}
 use native.Mathlib.Omega.{arith}
-use native.Mathlib.Nat.{pow-zero, pow-suc, pow-succ', div-div-eq-div-mul, mul_assoc}
+use native.Mathlib.Nat.{pow-zero, pow-suc, pow-succ', div-add-mod, div-div-eq-div-mul, div-one, mod-lt, mod-eq_of_lt, mul-add-mod_self_left, one-le-pow, zero-add, suc-add, mul_assoc}
 use native.Mathlib.Numerals.{add-one, add-two, add-three}
 use lib.ListN.{length, take, drop, get_or, length-drop}
 use lib.Seq.{take_all, length-take-le, take-add, drop-drop, drop-cons}
@@ -44,6 +44,31 @@ of-append [] t = omega arith
 of-append (b ∷ s) t =
     let e : 256 ^ suc (length s) * of_little t ≡ 256 * (256 ^ length s * of_little t) = times (length s) (of_little t) in
     omega (arith, of-append s t)
+
+pub little-append : (m n v : ℕ) → little (m + n) v ≡ little m v ++ little n (v / 256 ^ m)
+unfolding little
+little-append zero n v = rw (zero-add n, pow-zero 256, div-one v) refl
+little-append (suc m) n v = rw (suc-add m n, little-append m n (v / 256), div-div-eq-div-mul v 256 (256 ^ m), pow-succ' 256 m) refl
+
+-- only the lowest bytes count
+pub little-rem : (n v : ℕ) → little n (v % 256 ^ n) ≡ little n v
+unfolding little
+little-rem zero v = refl
+little-rem (suc n) v =
+    let m : ℕ = 256 ^ n in
+    let q : ℕ = v / 256 ^ suc n in
+    let r : ℕ = v % 256 ^ suc n in
+    let whole : 256 * (m * q) + r ≡ v = ap (λ k. k + r) (sym (times n q)) ∙ div-add-mod v (256 ^ suc n) in
+    let low : r % 256 ≡ v % 256 = omega (arith, whole) in
+    let fits : r / 256 < m = omega (arith, mod-lt v {m = 256 ^ suc n} (one-le-pow (suc n) 256 (omega arith)), pow-succ' 256 n) in
+    let high : v / 256 ≡ m * q + r / 256 = omega (arith, whole) in
+    let rest : r / 256 ≡ v / 256 % m =
+    sym (ap (λ k. k % m) high ∙ mul-add-mod_self_left m q (r / 256) ∙ mod-eq_of_lt fits) in
+    rw (low, rest, little-rem n (v / 256)) refl
+
+-- a number by its low part and its high part
+pub little-parts : (m n v : ℕ) → little m (v % 256 ^ m) ++ little n (v / 256 ^ m) ≡ little (m + n) v
+little-parts m n v = rw (little-rem m v, little-append m n v) refl
 
 -- ---- in a text
 

@@ -30,7 +30,7 @@ fn answer_noting(
 }
 
 // The same for a text of any length, with 65,536 notes, done `more` times again. Nobody asks for more than once. The function calls itself so that it
-// is compiled as a function of its own: its 256 KiB are not in the frame of its caller, which serves short texts too (see `read_judge::judge_long`).
+// is compiled as a function of its own: its 256 KiB are not in the frame of its caller, which serves short texts too.
 #[inline(never)]
 fn answer_long(
     text: &[u8],

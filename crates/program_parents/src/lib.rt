@@ -96,7 +96,7 @@ pub fn parents_in(text: &[u8], programs: Programs) -> Parents
 }
 
 // The parents of an accepted text's programs by its own catalogue, and `more` times again. Nobody asks for more than once: a function that calls itself is compiled by itself, so
-// that its four arrays are on the stack only while it runs, and not while a text is checked (`read_judge::judge_long`).
+// that its four arrays are on the stack only while it runs, and not while a text is checked.
 fn parents_again(text: &[u8], catalogue: &[u8], more: usize) -> Parents
     requires text_value { is_accepted (read_text text.now) ≡ true }
     requires catalogue_value { catalogue.now ≡ format.catalogue (records_of text.now) }

@@ -1,14 +1,31 @@
--- Whether all elements are one number: each of them is.
-use Prim.Native.Nat.{ℕ, zero, suc, ◌<◌}
-use mathlib.Core.Path.{◌≡◌, refl, sym}
+-- Whether all elements are one number: the elements from `i` on decide, or each of them is.
+use Prim.Native.Nat.{ℕ, zero, suc, ◌+◌, ◌≤◌, ◌<◌}
+use mathlib.Core.Path.{◌≡◌, refl, sym, ap, ◌∙◌}
 use mathlib.Core.Bool.{Bool, true, false, ◌&&◌, false≢true}
 use mathlib.Core.List.{List, [], ◌∷◌}
+use native.Mathlib.Numerals.{add-one}
 use native.Mathlib.Omega.{arith}
-use lib.ListN.{length, get_or}
+use lib.ListN.{length, get_or, drop, drop_of_length-le}
+use lib.Seq.{drop-cons}
 use lib.Dec.{eqb}
-use borrow.Author.Tests.{eq-eqb, eqb-true}
+use borrow.Author.Tests.{eq-eqb, ne_eqb, eqb-true}
 use Rattle.std.specs.Prelude.{IsTrue, EachIndex, slice_index, ◌↔◌}
 use Rattle.format.specs.Bytes.{all}
+
+module _ (n : ℕ) (s : List ℕ) (i : ℕ) where
+  next : i < length s → all (eqb n) (drop i s) ≡ (eqb n (get_or s i 0) && all (eqb n) (drop (i + 1) s))
+  unfolding all
+  next h = rw (drop-cons s i 0 h, add-one i) refl
+
+  pub spent : length s ≤ i → all (eqb n) (drop i s) ≡ true
+  unfolding all
+  spent h = rw (drop_of_length-le s h) refl
+
+  pub stops : i < length s → (n ≡ get_or s i 0 → ⊥) → all (eqb n) (drop i s) ≡ false
+  stops h e = next h ∙ ap (λ t. t && all (eqb n) (drop (i + 1) s)) (ne_eqb n (get_or s i 0) e)
+
+  pub goes : i < length s → n ≡ get_or s i 0 → all (eqb n) (drop i s) ≡ all (eqb n) (drop (i + 1) s)
+  goes h e = next h ∙ ap (λ t. t && all (eqb n) (drop (i + 1) s)) (eq-eqb n (get_or s i 0) e)
 
 module _ (n : ℕ) where
   each-all : (s : List ℕ) → ((k : ℕ) → k < length s → get_or s k 0 ≡ n) → all (eqb n) s ≡ true

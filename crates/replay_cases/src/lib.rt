@@ -68,14 +68,24 @@ pub fn decode(hex: &[u8], text: &mut [u8]) -> usize
 pub fn is_untouched(kept: &[u8]) -> bool
     ensures { result ≡ all (eqb 165) kept.now }
 {
-    kept.iter().all(|b| *b == FILLER)
+    for i in 0..kept.len() {
+        if FILLER != kept[i] {
+            return false;
+        }
+    }
+    true
 }
 
 // Whether no ordinal has been written over.
 pub fn is_unlisted(list: &[u32]) -> bool
     ensures { result ≡ all (eqb 2779096485) list.now }
 {
-    list.iter().all(|k| *k == NO_ORDINAL)
+    for i in 0..list.len() {
+        if NO_ORDINAL != list[i] {
+            return false;
+        }
+    }
+    true
 }
 
 // Where the piece of `s` from `at` on ends: at the next `d`, or at the end.
