@@ -1,4 +1,5 @@
 -- `decimal::read_up_to` meets its contract: what the whole asks is what the rest asks after the number read so far. Assumes nothing.
+-- Whether a byte is a digit follows from what `is_ascii_digit` says of the byte that it was asked of, whatever term that is: of another byte it does not follow.
 use Prim.Native.Nat.{suc}
 use mathlib.Core.Path.{◌≡◌, refl, sym, ap, ◌∙◌}
 use mathlib.Core.Logic.{⊎_elim}
@@ -15,19 +16,19 @@ pub returns-then-tenth-value : goal.returns-then-tenth-value
 returns-then-tenth-value c =
     let l = c.loop-b in
     let d = c.if-not-is_ascii_digit.ensures.cases in
-    sym (l.invariant.2 ∙ turn-large _ _ _ _ (omega arith) (rw l.invariant.0 (digit-yes _ d.0 d.1)) (omega arith))
+    sym (l.invariant.2 ∙ turn-large _ _ _ _ (omega arith) (rw l.invariant.0 (digit-yes _ (omega (arith, d.0)) (omega (arith, d.1)))) (omega arith))
 
 pub returns-then-max-tens : goal.returns-then-max-tens
 returns-then-max-tens c =
     let l = c.loop-b in
     let d = c.if-not-is_ascii_digit.ensures.cases in
-    sym (l.invariant.2 ∙ turn-large _ _ _ _ (omega arith) (rw l.invariant.0 (digit-yes _ d.0 d.1)) (rw l.invariant.0 (omega arith)))
+    sym (l.invariant.2 ∙ turn-large _ _ _ _ (omega arith) (rw l.invariant.0 (digit-yes _ (omega (arith, d.0)) (omega (arith, d.1)))) (rw l.invariant.0 (omega arith)))
 
 pub loop-b-preserved : goal.loop-b-preserved
 loop-b-preserved c =
     let l = c.loop-b in
     let d = c.if-not-is_ascii_digit.ensures.cases in
-    (omega arith, omega arith, l.invariant.2 ∙ rw l.invariant.0 (turn _ _ _ _ (omega arith) (digit-yes _ d.0 d.1)))
+    (omega arith, omega arith, l.invariant.2 ∙ rw l.invariant.0 (turn _ _ _ _ (omega arith) (digit-yes _ (omega (arith, d.0)) (omega (arith, d.1)))))
 
 -- read to the end, or to a byte that is no digit
 left : (c : Left-loop-b)
@@ -40,7 +41,7 @@ left c =
       | then-loop-b-test+then-not-is_ascii_digit w ↦
           l.invariant.2
           ∙ turn-stop _ _ _ _ (omega (arith, w.loop-b-test.true))
-          (rw l.invariant.0 (⊎_elim (digit_low _) (digit-high _) w.if-not-is_ascii_digit.ensures.cases))
+          (rw l.invariant.0 (⊎_elim (λ h. digit_low _ (omega (arith, h))) (λ h. digit-high _ (omega (arith, h))) w.if-not-is_ascii_digit.ensures.cases))
     ]
 
 pub returns-then-len-eq0 : goal.returns-then-len-eq0
